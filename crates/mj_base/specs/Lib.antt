@@ -1,0 +1,5 @@
+pub mod StandardLimits
+pub mod ServiceName
+pub mod Rising
+pub mod Reading
+pub mod Writing

@@ -1,0 +1,6 @@
+-- Counts of faults, which stop at the greatest number that they can hold.
+use Rattle.std.specs.Prelude.{ℕ, ◌+◌, ◌-◌, ◌^◌, ◌≤◌, min}
+
+-- the count is larger than before, or stands at its greatest value
+abbrev pub Rose : ℕ → ℕ → Type 0
+Rose before now = min (before + 1) (2 ^ 64 - 1) ≤ now

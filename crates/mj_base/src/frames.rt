@@ -1,0 +1,88 @@
+ghost use Rattle.std.specs.Prelude.{◌≡◌, ◌==◌, [], ◌∷◌, ◌++◌, length, sum_by, slice_get, option_copied, OnOk, OnErr, IfOk};
+
+use super::{NoMemory, Octets};
+use std::alloc::Global;
+use std::marker::Model;
+
+/// A list of frames, each a list of bytes.
+#[derive(Debug, Drop)]
+pub struct Frames {
+    frames: Vec<Octets>,
+    octets: u64,
+}
+
+impl Model for Frames {
+    ghost use Rattle.std.specs.Prelude.{◌≡◌, List, ℕ, length, sum_by};
+
+    ghost Value = { List (List ℕ) };
+
+    ghost view = { λ f. f.frames.items };
+
+    ghost invariant = { λ f. f.octets ≡ sum_by length f.frames.items };
+}
+
+impl Frames {
+    pub fn new(alloc: Global) -> Frames
+        ensures { result ≡ [] }
+    {
+        Frames {
+            frames: Vec::new(alloc),
+            octets: 0,
+        }
+    }
+
+    /// Appends a copy of this frame. Without memory nothing is appended.
+    pub fn push(&mut self, frame: &[u8]) -> Result<(), NoMemory>
+        ensures ok { OnOk result (self.new ≡ self.old ++ frame.now ∷ []) }
+        ensures err { OnErr result (self.new ≡ self.old) }
+    {
+        let Some(octets) = self.octets.checked_add(frame.len() as u64) else {
+            return Err(NoMemory);
+        };
+        let mut copy = Octets::new(*self.frames.allocator());
+        copy.push_all(frame)?;
+        self.frames.push(copy)?;
+        self.octets = octets;
+        Ok(())
+    }
+
+    /// The number of frames.
+    pub fn len(&self) -> usize
+        ensures { result ≡ length self.now }
+    {
+        self.frames.len()
+    }
+
+    pub fn is_empty(&self) -> bool
+        ensures { result ≡ (length self.now == 0) }
+    {
+        self.frames.is_empty()
+    }
+
+    pub fn get(&self, i: usize) -> Option<&[u8]>
+        ensures { option_copied result ≡ slice_get self.now i }
+    {
+        match self.frames.get(i) {
+            Some(frame) => Some(frame.as_slice()),
+            None => None,
+        }
+    }
+
+    /// The number of bytes of all frames together.
+    pub fn octets(&self) -> u64
+        ensures { result ≡ sum_by length self.now }
+    {
+        self.octets
+    }
+
+    /// An equal list of its own.
+    pub fn copy(&self) -> Result<Frames, NoMemory>
+        ensures { IfOk result (λ frames. frames ≡ self.now) }
+    {
+        let mut copy = Frames::new(*self.frames.allocator());
+        for frame in &self.frames {
+            copy.push(frame.as_slice())?;
+        }
+        Ok(copy)
+    }
+}
