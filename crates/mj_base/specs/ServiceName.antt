@@ -1,5 +1,5 @@
 -- What a service may be called.
-use Rattle.std.specs.Prelude.{ℕ, ◌≡◌, ◌-◌, ◌≤◌, Bool, ◌&&◌, ◌||◌, nat_lt, nat_le, nat_eq, List, ◌++◌, length, take, replicate, Option, Some, None, if◌then◌else◌, codes}
+use Rattle.std.specs.Prelude.{ℕ, Bool, ◌&&◌, ◌||◌, nat_lt, nat_le, nat_eq, List, length, Option, Some, None, if◌then◌else◌, codes}
 use Rattle.std.specs.List.{list_all, starts_with}
 
 -- a printing character of ASCII, or a space

@@ -1,4 +1,4 @@
-ghost use Rattle.std.specs.Prelude.{◌≡◌};
+ghost use Rattle.std.specs.Prelude.{◌≡◌, IsTrue, IsFalse, IfSome, IfNone};
 ghost use Rattle.std.specs.List.{list_all};
 ghost use Rattle.mj_base.specs.ServiceName;
 ghost use Rattle.mj_base.specs.ServiceName.{name_of, is_reserved};
@@ -25,7 +25,9 @@ impl Model for Name {
 impl Name {
     /// These bytes as a service name, or None where they aren't one.
     pub fn of(octets: &[u8]) -> Option<Name>
-        ensures { result ≡ name_of octets.now }
+        ensures exact { result ≡ name_of octets.now }
+        ensures named { IfSome result (λ name. (name ≡ octets.now) × IsTrue (ServiceName.is_service_name octets.now)) }
+        ensures refused { IfNone result (IsFalse (ServiceName.is_service_name octets.now)) }
     {
         if !is_service_name(octets) {
             return None;
