@@ -1,0 +1,14 @@
+//! The broker as a machine: events come in, and what is to be sent goes out. It waits for nobody and reaches
+//! nothing outside.
+#![tactic(auto)]
+
+mod answer;
+mod broker;
+mod fault;
+mod item;
+
+pub use broker::Broker;
+pub use fault::EventFault;
+
+#[cfg(test)]
+mod tests;

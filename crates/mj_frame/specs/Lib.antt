@@ -1,0 +1,3 @@
+pub mod FrameSpelling
+pub mod HeadReading
+pub mod Laws

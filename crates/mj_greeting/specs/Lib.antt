@@ -1,0 +1,2 @@
+pub mod GreetingGrammar
+pub mod GreetingTable

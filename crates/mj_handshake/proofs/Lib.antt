@@ -1,0 +1,4 @@
+pub mod ReadingLemmas
+pub mod SpellingLemmas
+pub mod MeaningLemmas
+pub mod LawLemmas

@@ -1,0 +1,4 @@
+pub mod ReadyProperty
+pub mod ReadyReading
+pub mod ReadyGrammar
+pub mod Laws

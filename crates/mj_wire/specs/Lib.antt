@@ -1,0 +1,6 @@
+pub mod NextReading
+pub mod StreamItems
+pub mod WireState
+pub mod StreamCuts
+pub mod StreamFault
+pub mod Laws

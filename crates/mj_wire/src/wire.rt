@@ -1,0 +1,96 @@
+ghost use Rattle.std.specs.Prelude.{◌≡◌, ◌++◌, ◌+◌, [], false, true, length, IfOk, OnOk, OnErr, List, ℕ};
+ghost use Rattle.mj_base.specs.declared.limits.Limits.{Limits as Lim};
+
+use super::WireItem;
+use super::place::{Place, Stage};
+use super::read::take_piece;
+use bytes::BytesMut;
+use mj_base::{Frames, Limits, NoMemory};
+use std::alloc::Global;
+use std::marker::Model;
+
+/// The reader of one peer's stream. Of the bytes that it was fed it keeps those of the message and the frame
+/// that aren't whole yet, and none after a fault.
+#[derive(Drop)]
+pub struct Wire {
+    limits: Limits,
+    place: Place,
+    rest: BytesMut,
+    taken: u64,
+    spent: bool,
+}
+
+impl Model for Wire {
+    ghost use Rattle.mj_wire.specs.WireState.{State};
+
+    ghost Value = { State };
+
+    ghost view = { λ w. record { limits = w.limits; place = w.place; rest = w.rest.items; taken = w.taken; spent = w.spent } };
+}
+
+impl Wire {
+    ghost use Rattle.mj_wire.specs.StreamItems.{count, gained};
+    ghost use Rattle.mj_wire.specs.WireState.{StandsFor, AppendsFront};
+
+    /// A reader at the start of a stream.
+    pub fn new(alloc: Global, limits: &Limits) -> Result<Wire, NoMemory>
+        ensures stands { IfOk result (λ w. StandsFor limits.now w []) }
+        ensures ready { IfOk result (λ w. w.spent ≡ false) }
+    {
+        Ok(Wire {
+            limits: *limits,
+            place: Place {
+                stage: Stage::Greeting,
+                at: 0,
+                group: Frames::new(alloc),
+            },
+            rest: BytesMut::with_capacity(alloc, 64)?,
+            taken: 0,
+            spent: false,
+        })
+    }
+
+    /// Takes the next piece of the stream, and appends the items that it completes. Without memory the wire is
+    /// spent, and of the items that were due the first ones may have been appended.
+    pub fn feed(
+        &mut self,
+        alloc: Global,
+        piece: &[u8],
+        items: &mut Vec<WireItem>,
+    ) -> Result<(), NoMemory>
+        requires { self.old.spent ≡ false }
+        ensures stream { OnOk result ((limits : Lim) (stream : List ℕ) → StandsFor limits self.old stream → StandsFor limits self.new (stream ++ piece.now)) }
+        ensures items { OnOk result ((limits : Lim) (stream : List ℕ) → StandsFor limits self.old stream → items.new.items ≡ items.old.items ++ gained limits stream piece.now) }
+        ensures part { OnErr result ((limits : Lim) (stream : List ℕ) → StandsFor limits self.old stream → AppendsFront items.old.items (gained limits stream piece.now) items.new.items) }
+        ensures ready { OnOk result (self.new.spent ≡ false) }
+        ensures spent { OnErr result (self.new.spent ≡ true) }
+        ensures counts { OnOk result (self.new.taken ≡ count (self.old.taken + length piece.now)) }
+    {
+        self.spent = true;
+        take_piece(
+            alloc,
+            &self.limits,
+            &mut self.place,
+            &mut self.rest,
+            piece,
+            items,
+        )?;
+        self.taken = self.taken.saturating_add(piece.len() as u64);
+        self.spent = false;
+        Ok(())
+    }
+
+    /// Whether memory ran out in an earlier piece; then the wire can't be fed.
+    pub fn is_spent(&self) -> bool
+        ensures { result ≡ self.now.spent }
+    {
+        self.spent
+    }
+
+    /// The number of bytes fed, which stops at 2^64 - 1.
+    pub fn taken(&self) -> u64
+        ensures { result ≡ self.now.taken }
+    {
+        self.taken
+    }
+}
