@@ -1,4 +1,4 @@
-ghost use Rattle.std.specs.Prelude.{◌≡◌, ◌≤◌, ◌↔◌, length, slice_index, IfSome, None};
+ghost use Rattle.std.specs.Prelude.{◌≡◌, ◌≤◌, ◌↔◌, length, slice_index, IfSome, None, IsOk, Ok};
 ghost use Rattle.mj_greeting.specs.GreetingGrammar;
 ghost use Rattle.mj_greeting.specs.GreetingGrammar.{IsGreeting, fault_of, greeting_of, mechanism};
 ghost use Rattle.mj_greeting.specs.GreetingTable.{IsFineBelow, IsFirstFault};
@@ -51,6 +51,7 @@ fn first_fault(front: &[u8]) -> Option<GreetingFault>
 /// The greeting that these bytes are, or its first fault.
 pub fn read_greeting(octets: &[u8; 64]) -> Result<Greeting, GreetingFault>
     ensures exact { result ≡ greeting_of octets.now }
+    ensures accepted { IsOk result ↔ IsGreeting octets.now }
 {
     match greeting_fault(octets) {
         Some(fault) => Err(fault),
@@ -66,6 +67,7 @@ pub fn read_greeting(octets: &[u8; 64]) -> Result<Greeting, GreetingFault>
 pub fn broker_greeting() -> [u8; 64]
     ensures exact { result ≡ GreetingGrammar.broker_greeting }
     ensures accepted { IsGreeting result }
+    ensures again { greeting_of result ≡ Ok (record { major = 3; minor = 0; as_server = 0 }) }
 {
     let mut greeting = [0; 64];
     greeting[0] = 0xff;

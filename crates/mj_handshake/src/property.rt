@@ -16,8 +16,8 @@ pub struct Cut<'a> {
     pub rest: &'a [u8],
 }
 
-#[tactic(auto, unfolding(crate::specs::ReadyReading::property_at))]
 /// Cuts off the property that the bytes begin with, or None where they begin with none.
+#[tactic(auto, unfolding(crate::specs::ReadyReading::property_at))]
 pub fn cut_property(octets: &[u8]) -> Option<Cut<'_>>
     ensures { option_map (λ c. cut c.name.now c.value.now c.rest.now) result ≡ property_at octets.now }
 {
