@@ -1,4 +1,4 @@
-ghost use Rattle.std.specs.Prelude.{◌≡◌, ◌↔◌, ◌<◌, List, ℕ, [], ◌∷◌, ◌++◌, true, false, set, get_or, Option, IfOk, OnOk, OnErr};
+ghost use Rattle.std.specs.Prelude.{◌≡◌, ◌↔◌, ◌<◌, List, ℕ, [], ◌∷◌, ◌++◌, true, false, is_err, set, get_or, Option, IfOk, OnOk};
 ghost use Rattle.mj_base.specs.declared.limits.Limits.{Limits as LimitsOf};
 ghost use Rattle.mj_base.specs.declared.event.Out.TheVariants.{Piece};
 ghost use Rattle.mj_greeting.specs.GreetingGrammar.{broker_greeting};
@@ -39,7 +39,8 @@ impl Broker {
     /// A broker with nobody connected.
     pub fn new(alloc: Global, limits: &Limits) -> Result<Broker, NoMemory>
         ensures state { IfOk result (λ broker. IsAt limits.now broker (start limits.now)) }
-        ensures unspent { IfOk result (λ broker. broker.spent ≡ false) }
+        ensures limits { IfOk result (λ broker. broker.limits ≡ limits.now) }
+        ensures fresh { IfOk result (λ broker. broker.spent ≡ false) }
     {
         let mut wires = Vec::new(alloc);
         for lane in 0..limits.lanes {
@@ -68,8 +69,7 @@ impl Broker {
 
         // An earlier fault, and nothing else, is answered by `Spent`.
         ensures spent { (result ≡ Err EventFault.Spent) ↔ (self.old.spent ≡ true) }
-        ensures unspent { OnOk result (self.new.spent ≡ false) }
-        ensures fault { OnErr result (self.new.spent ≡ true) }
+        ensures after { self.new.spent ≡ is_err result }
         ensures limits { self.new.limits ≡ self.old.limits }
     {
         if self.spent {

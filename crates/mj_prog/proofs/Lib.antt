@@ -1,0 +1,10 @@
+pub mod Lists
+pub mod ScriptLines
+pub mod Inputs
+pub mod SoFar
+pub mod Printing
+pub mod Runs
+pub mod StatusLaws
+pub mod Rows
+pub mod Filling
+pub mod Digits

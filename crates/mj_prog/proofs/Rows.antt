@@ -1,0 +1,61 @@
+-- Laws of the rows of the statuses.
+use Rattle.std.proofs.Common.{◌≡◌, ◌≤◌, ◌^◌, ◌+◌, ℕ, List, [], ◌∷◌, ◌++◌, length, take, Option, Some, None, ◌⊎◌, inl, inr, refl, sym, ap, ◌∙◌, subst, append-nil, arith}
+use Rattle.std.specs.Io.KnownBytes.{Appends, Keeps}
+use Rattle.std.proofs.KnownBytes.{Appends-trans, Appends-kept, Appends-nil, Consumes-nil}
+use Rattle.mj_base.specs.Rising.{Rose}
+use Rattle.mj_base.specs.Writing.{AppendsFront, WriteAdds, WriteCause}
+use Rattle.mj_base.specs.declared.sink.WriteAnswer.{WriteAnswer}
+use Rattle.mj_base.specs.declared.sink.WriteAnswer.TheVariants as writes
+use Rattle.mj_prog.specs.declared.turn.Halt.TheVariants as halts
+use Rattle.mj_prog.specs.declared.status.Status.TheVariants as statuses
+use Rattle.mj_prog.specs.Script.{Ending, WithText, AtStop, AtUnlawful, IsLawful, script}
+use Rattle.mj_prog.specs.Shown.{done_line, fault_line}
+use Rattle.mj_prog.specs.ReplayTable.{IsInput, IsDone, IsCutOff, printed, output, last_line, AppendsLine}
+use Rattle.mj_prog.specs.Running.{IsHalted}
+use Rattle.mj_prog.specs.StatusRows.{IsRow, status_after}
+use Rattle.mj_prog.proofs.Inputs.{text-reading}
+use Rattle.mj_prog.proofs.Printing.{front-of, front-behind, rose-from}
+
+lawful-last : (ending : Ending) (events : ℕ) → IsLawful ending → last_line ending events ≡ done_line events
+lawful-last WithText events lawful = refl
+lawful-last (AtStop number) events lawful = refl
+lawful-last (AtUnlawful number) events lawful = absurd lawful
+
+-- the last line of a script that ends well
+done-output : (lanes : ℕ) (text : List ℕ) (events : ℕ) → IsLawful (script lanes text).ending → events ≡ length (script lanes text).events
+    → output lanes text ≡ printed lanes text ++ done_line events
+done-output lanes text events lawful count =
+    ap (λ (line : List ℕ). printed lanes text ++ line) (lawful-last (script lanes text).ending (length (script lanes text).events) lawful ∙ ap done_line (sym count))
+
+-- a run to the script's end whose last line was written, or wasn't
+pub row-written : (lanes reads_before reads_now writes_before m n : ℕ) (from left old mid new : Option (List ℕ)) (events : ℕ) (answer : WriteAnswer) → writes_before ≤ m
+    → IsHalted from left lanes old mid events halts.Over → WriteAdds mid new answer (done_line events) → WriteCause m n answer
+    → IsRow lanes from left reads_before reads_now old new writes_before n (status_after answer)
+row-written lanes reads_before reads_now writes_before m n from left old mid new events writes.Done first halted adds cause =
+    (halted.0, halted.1, halted.2, subst (Appends old new) (sym (done-output lanes halted.0 events halted.2 halted.3)) (Appends-trans old mid new (printed lanes halted.0) (done_line events) halted.4 adds))
+row-written lanes reads_before reads_now writes_before m n from left old mid new events writes.NoMemory first halted adds cause =
+    (halted.0, halted.1, front-of old new (printed lanes halted.0) _ (output lanes halted.0) (Appends-kept old mid new (printed lanes halted.0) halted.4 adds) refl)
+row-written lanes reads_before reads_now writes_before m n from left old mid new events writes.Failed first halted adds cause = (
+  rose-from writes_before m n first cause,
+  (
+    halted.0,
+    halted.1,
+    front-behind old mid new (printed lanes halted.0) (done_line events) [] (output lanes halted.0) halted.4 adds
+        (done-output lanes halted.0 events halted.2 halted.3 ∙ ap (λ (line : List ℕ). printed lanes halted.0 ++ line) (sym (append-nil (done_line events)))),
+  ),
+)
+
+pub row-unwritten : (lanes : ℕ) (from left old new : Option (List ℕ)) (events : ℕ) → IsHalted from left lanes old new events halts.Over → IsCutOff lanes from old new
+row-unwritten lanes from left old new events halted =
+    (halted.0, halted.1, front-of old new (printed lanes halted.0) _ (output lanes halted.0) halted.4 refl)
+
+-- a front of what the outs print is one of all that is printed
+pub row-front : (lanes : ℕ) (from old new : Option (List ℕ)) → ((text : List ℕ) × IsInput from text × AppendsFront old new (printed lanes text)) → IsCutOff lanes from old new
+row-front lanes from old new front =
+    (front.0, front.1, front-behind old old new [] (printed lanes front.0) _ (output lanes front.0) (Appends-nil old) front.2 refl)
+
+-- a run that never began
+pub row-nothing : (lanes : ℕ) (from written : Option (List ℕ)) → IsCutOff lanes from written written
+row-nothing lanes from written =
+    let t = text-reading from from [] (Consumes-nil from) (omega arith) in
+    (t.0, t.2, front-of written written [] (output lanes t.0) (output lanes t.0) (Appends-nil written) refl)

@@ -1,0 +1,52 @@
+use Rattle.std.proofs.Common.{◌≡◌, ℕ, List, [], Option, map, string_bytes, sym, ap, ◌∙◌, subst, arith, rules}
+use Rattle.mj_prog.specs.declared.status.Status.{Status}
+use Rattle.mj_prog.specs.declared.status.Status.TheVariants as statuses
+use Rattle.mj_prog.specs.Words.{lanes_in}
+use Rattle.mj_prog.specs.Statuses.{code_of}
+use Rattle.mj_prog.proofs.StatusLaws.{status-is, row-of, answers}
+use Rattle.mj_prog.proofs.tool.tool.Goals as goal
+
+pub returns-clause-words : goal.returns-clause-words
+returns-clause-words g c = (
+  λ is. c.run_tool.ensures.words.0 (status-is c.run_tool.result statuses.Words c.code.result c.code.ensures is),
+  λ none. c.code.ensures ∙ ap code_of (c.run_tool.ensures.words.1 none),
+)
+
+pub returns-clause-refused_words : goal.returns-clause-refused_words
+returns-clause-refused_words g c = λ is. c.run_tool.ensures.refused_words (status-is c.run_tool.result statuses.Words c.code.result c.code.ensures is)
+
+pub returns-clause-done : goal.returns-clause-done
+returns-clause-done g c = λ is.
+    row-of (lanes_in (map string_bytes c.args.words.now)) (g.S.Source.left c.args.src.now) (g.S.Source.left c.run_tool.new.src) (g.K.Sink.written c.args.out.now) (g.K.Sink.written c.run_tool.new.out)
+    (g.S.Source.faults c.args.src.now) (g.S.Source.faults c.run_tool.new.src) (g.K.Sink.faults c.args.out.now) (g.K.Sink.faults c.run_tool.new.out)
+    c.code.result c.run_tool.result statuses.Done c.run_tool.ensures.rows c.code.ensures is
+
+pub returns-clause-unlawful : goal.returns-clause-unlawful
+returns-clause-unlawful g c = λ is.
+    row-of (lanes_in (map string_bytes c.args.words.now)) (g.S.Source.left c.args.src.now) (g.S.Source.left c.run_tool.new.src) (g.K.Sink.written c.args.out.now) (g.K.Sink.written c.run_tool.new.out)
+    (g.S.Source.faults c.args.src.now) (g.S.Source.faults c.run_tool.new.src) (g.K.Sink.faults c.args.out.now) (g.K.Sink.faults c.run_tool.new.out)
+    c.code.result c.run_tool.result statuses.Line c.run_tool.ensures.rows c.code.ensures is
+
+pub returns-clause-memory : goal.returns-clause-memory
+returns-clause-memory g c = λ is.
+    row-of (lanes_in (map string_bytes c.args.words.now)) (g.S.Source.left c.args.src.now) (g.S.Source.left c.run_tool.new.src) (g.K.Sink.written c.args.out.now) (g.K.Sink.written c.run_tool.new.out)
+    (g.S.Source.faults c.args.src.now) (g.S.Source.faults c.run_tool.new.src) (g.K.Sink.faults c.args.out.now) (g.K.Sink.faults c.run_tool.new.out)
+    c.code.result c.run_tool.result statuses.NoMemory c.run_tool.ensures.rows c.code.ensures is
+
+pub returns-clause-read : goal.returns-clause-read
+returns-clause-read g c = λ is.
+    row-of (lanes_in (map string_bytes c.args.words.now)) (g.S.Source.left c.args.src.now) (g.S.Source.left c.run_tool.new.src) (g.K.Sink.written c.args.out.now) (g.K.Sink.written c.run_tool.new.out)
+    (g.S.Source.faults c.args.src.now) (g.S.Source.faults c.run_tool.new.src) (g.K.Sink.faults c.args.out.now) (g.K.Sink.faults c.run_tool.new.out)
+    c.code.result c.run_tool.result statuses.Read c.run_tool.ensures.rows c.code.ensures is
+
+pub returns-clause-write : goal.returns-clause-write
+returns-clause-write g c = λ is.
+    row-of (lanes_in (map string_bytes c.args.words.now)) (g.S.Source.left c.args.src.now) (g.S.Source.left c.run_tool.new.src) (g.K.Sink.written c.args.out.now) (g.K.Sink.written c.run_tool.new.out)
+    (g.S.Source.faults c.args.src.now) (g.S.Source.faults c.run_tool.new.src) (g.K.Sink.faults c.args.out.now) (g.K.Sink.faults c.run_tool.new.out)
+    c.code.result c.run_tool.result statuses.Write c.run_tool.ensures.rows c.code.ensures is
+
+pub returns-clause-complete : goal.returns-clause-complete
+returns-clause-complete g c =
+    answers (lanes_in (map string_bytes c.args.words.now)) (g.S.Source.left c.args.src.now) (g.S.Source.left c.run_tool.new.src) (g.K.Sink.written c.args.out.now) (g.K.Sink.written c.run_tool.new.out)
+    (g.S.Source.faults c.args.src.now) (g.S.Source.faults c.run_tool.new.src) (g.K.Sink.faults c.args.out.now) (g.K.Sink.faults c.run_tool.new.out)
+    c.code.result c.run_tool.result c.run_tool.ensures.rows c.code.ensures

@@ -1,0 +1,9 @@
+pub mod Numbers
+pub mod Script
+pub mod Shown
+pub mod Words
+pub mod ReplayTable
+pub mod ReadSoFar
+pub mod Running
+pub mod Statuses
+pub mod StatusRows

@@ -1,0 +1,48 @@
+-- The lines that are printed.
+use Rattle.std.specs.Prelude.{ℕ, List, [], ◌∷◌, ◌++◌, codes}
+use Rattle.std.specs.Fmt.{decimal}
+use Rattle.hex.specs.Hex.{encode_lower}
+use Rattle.mj_base.specs.declared.reason.Reason.{Reason}
+use Rattle.mj_base.specs.declared.reason.Reason.TheVariants as reasons
+use Rattle.mj_base.specs.declared.event.Out.{Out}
+use Rattle.mj_base.specs.declared.event.Out.TheVariants as outs
+
+abbrev pub reason_word : Reason → List ℕ
+reason_word reasons.BadSignature = codes "bad-signature"
+reason_word reasons.BadVersion = codes "bad-version"
+reason_word reasons.BadMechanism = codes "bad-mechanism"
+reason_word reasons.BadFlags = codes "bad-flags"
+reason_word reasons.BadHandshake = codes "bad-handshake"
+reason_word reasons.BadSocketType = codes "bad-socket-type"
+reason_word reasons.TooMany = codes "too-many"
+reason_word reasons.TooLong = codes "too-long"
+reason_word reasons.Slow = codes "slow"
+reason_word reasons.QueueFull = codes "queue-full"
+reason_word reasons.NotBuilt = codes "not-built"
+
+abbrev pub put_line : ℕ → List ℕ → List ℕ
+put_line lane digits = codes "put " ++ (decimal lane ++ (codes " " ++ (digits ++ codes "\n")))
+
+abbrev pub end_line : ℕ → List ℕ → ℕ → List ℕ
+end_line lane reason at = codes "end " ++ (decimal lane ++ (codes " " ++ (reason ++ (codes " " ++ (decimal at ++ codes "\n")))))
+
+-- `put L HEX` for a piece, `end L REASON AT` for an end
+abbrev pub line_of_out : Out → List ℕ
+line_of_out (outs.Piece lane piece) = put_line lane (encode_lower piece)
+line_of_out (outs.End lane reason at) = end_line lane (reason_word reason) at
+
+abbrev pub shown : List Out → List ℕ
+shown [] = []
+shown (out ∷ outs) = line_of_out out ++ shown outs
+
+abbrev pub done_line : ℕ → List ℕ
+done_line events = codes "done " ++ (decimal events ++ codes "\n")
+
+abbrev pub fault_line : ℕ → List ℕ
+fault_line number = codes "fault line " ++ (decimal number ++ codes "\n")
+
+abbrev pub fault_words : List ℕ
+fault_words = codes "fault words\n"
+
+abbrev pub fault_read : List ℕ
+fault_read = codes "fault read\n"

@@ -1,0 +1,12 @@
+-- The numbers that the program exits with.
+use Rattle.std.specs.Prelude.{ℕ}
+use Rattle.mj_prog.specs.declared.status.Status.{Status}
+use Rattle.mj_prog.specs.declared.status.Status.TheVariants as statuses
+
+abbrev pub code_of : Status → ℕ
+code_of statuses.Done = 0
+code_of statuses.Words = 1
+code_of statuses.Line = 2
+code_of statuses.NoMemory = 4
+code_of statuses.Read = 6
+code_of statuses.Write = 7

@@ -1,0 +1,137 @@
+ghost use Rattle.std.specs.Prelude.{◌≡◌, ◌<◌, IfOk, IfSome, length};
+ghost use Rattle.std.specs.List.{position};
+ghost use Rattle.mj_prog.specs.Script.{is_space, meaning_of, event_of, open_on, bytes_of, bytes_at, bytes_on, lane_of, piece_of};
+ghost use Rattle.mj_prog.specs.ReadSoFar.{MeaningIsTaken, EventIsTaken, IsPiece};
+
+use super::meaning::Meaning;
+use super::number::read_number;
+use hex::FromHexError;
+use mj_base::{Event, NoMemory, Octets};
+use std::alloc::Global;
+
+/// A line has at most so many bytes before its newline.
+pub const LINE_BYTES: usize = 131_081;
+
+/// A piece has at most so many hex digits.
+const PIECE_DIGITS: usize = 131_072;
+
+/// Reads one line of a script, without its newline.
+pub fn read_line(alloc: Global, lanes: u32, line: &[u8]) -> Result<Meaning, NoMemory>
+    ensures exact { IfOk result (λ meaning. meaning ≡ meaning_of lanes line.now) }
+    ensures taken { IfOk result (MeaningIsTaken lanes) }
+{
+    if line.len() > LINE_BYTES {
+        return Ok(Meaning::Unlawful);
+    }
+    if line == b"stop".as_slice() {
+        return Ok(Meaning::Stop);
+    }
+    match read_event(alloc, lanes, line)? {
+        Some(event) => Ok(Meaning::Act(event)),
+        None => Ok(Meaning::Unlawful),
+    }
+}
+
+fn read_event(alloc: Global, lanes: u32, line: &[u8]) -> Result<Option<Event>, NoMemory>
+    ensures exact { IfOk result (λ event. event ≡ event_of lanes line.now) }
+    ensures taken { IfOk result (EventIsTaken lanes) }
+{
+    if let Some(rest) = line.strip_prefix(b"open ".as_slice()) {
+        return Ok(read_open(lanes, rest));
+    }
+    if let Some(rest) = line.strip_prefix(b"bytes ".as_slice()) {
+        return read_bytes(alloc, lanes, rest);
+    }
+    Ok(None)
+}
+
+fn read_open(lanes: u32, text: &[u8]) -> Option<Event>
+    ensures exact { result ≡ open_on (lane_of lanes text.now) }
+    ensures taken { EventIsTaken lanes result }
+{
+    match read_lane(lanes, text) {
+        Some(lane) => Some(Event::Open(lane)),
+        None => None,
+    }
+}
+
+fn read_bytes(alloc: Global, lanes: u32, text: &[u8]) -> Result<Option<Event>, NoMemory>
+    ensures exact { IfOk result (λ event. event ≡ bytes_of lanes text.now) }
+    ensures taken { IfOk result (EventIsTaken lanes) }
+{
+    read_bytes_at(alloc, lanes, text, find_space(text))
+}
+
+/// The place of the first space.
+fn find_space(text: &[u8]) -> Option<usize>
+    ensures place { result ≡ position is_space text.now }
+    ensures inside { IfSome result (λ space. space < length text.now) }
+{
+    text.iter().position(|c| *c == b' ')
+}
+
+fn read_bytes_at(
+    alloc: Global,
+    lanes: u32,
+    text: &[u8],
+    space: Option<usize>,
+) -> Result<Option<Event>, NoMemory>
+    requires { IfSome space (λ place. place < length text.now) }
+    ensures exact { IfOk result (λ event. event ≡ bytes_at lanes text.now space) }
+    ensures taken { IfOk result (EventIsTaken lanes) }
+{
+    match space {
+        Some(space) => {
+            let lane = read_lane(lanes, &text[..space]);
+            read_piece_of(alloc, lanes, lane, &text[space + 1..])
+        }
+        None => Ok(None),
+    }
+}
+
+fn read_piece_of(
+    alloc: Global,
+    lanes: u32,
+    lane: Option<u32>,
+    digits: &[u8],
+) -> Result<Option<Event>, NoMemory>
+    requires { IfSome lane (λ number. number < lanes) }
+    ensures exact { IfOk result (λ event. event ≡ bytes_on lane (piece_of digits.now)) }
+    ensures taken { IfOk result (EventIsTaken lanes) }
+{
+    let Some(lane) = lane else {
+        return Ok(None);
+    };
+    match read_piece(alloc, digits)? {
+        Some(piece) => Ok(Some(Event::Bytes(lane, piece))),
+        None => Ok(None),
+    }
+}
+
+fn read_lane(lanes: u32, text: &[u8]) -> Option<u32>
+    ensures exact { result ≡ lane_of lanes text.now }
+    ensures below { IfSome result (λ lane. lane < lanes) }
+{
+    match read_number(text) {
+        Some(number) if number < u64::from(lanes) => Some(number as u32),
+        _ => None,
+    }
+}
+
+fn read_piece(alloc: Global, digits: &[u8]) -> Result<Option<Octets>, NoMemory>
+    ensures exact { IfOk result (λ piece. piece ≡ piece_of digits.now) }
+    ensures sized { IfOk result (λ piece. IfSome piece IsPiece) }
+{
+    if digits.is_empty() || digits.len() > PIECE_DIGITS {
+        return Ok(None);
+    }
+    match hex::decode(alloc, digits) {
+        Ok(bytes) => {
+            let mut piece = Octets::new(alloc);
+            piece.push_all(bytes.as_slice())?;
+            Ok(Some(piece))
+        }
+        Err(FromHexError::OutOfMemory) => Err(NoMemory),
+        Err(_) => Ok(None),
+    }
+}

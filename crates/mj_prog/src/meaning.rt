@@ -1,0 +1,12 @@
+use mj_base::Event;
+
+/// What a line of a script says.
+#[derive(Debug, Drop)]
+pub enum Meaning {
+    /// This event comes.
+    Act(Event),
+    /// Nothing comes any more.
+    Stop,
+    /// The line is no line of a script.
+    Unlawful,
+}

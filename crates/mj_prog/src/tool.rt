@@ -1,0 +1,68 @@
+ghost use Rattle.std.specs.Prelude.{◌≡◌, ◌↔◌, ◌^◌, ◌≤◌, [], Some, None, IfSome, map, take, string_bytes};
+ghost use Rattle.std.specs.Io.KnownBytes.{Keeps};
+ghost use Rattle.mj_base.specs.Rising.{Rose};
+ghost use Rattle.mj_prog.specs.Words.{lanes_in};
+ghost use Rattle.mj_prog.specs.Script.{script};
+ghost use Rattle.mj_prog.specs.Shown.{fault_words};
+ghost use Rattle.mj_prog.specs.ReplayTable.{IsDone, IsRefused, IsCutOff, IsUnread, AppendsLine, AnswersFor};
+ghost use Rattle.mj_prog.specs.StatusRows.{IsRow};
+ghost use Rattle.mj_prog.specs.declared.status.Status;
+
+use super::finish::{complain, finish};
+use super::progress::Progress;
+use super::run::run_script;
+use super::status::{Status, code};
+use super::words::lanes_in_words;
+use mj_base::{Limits, Sink, Source};
+use mj_broker::Broker;
+use std::alloc::Global;
+
+/// Bytes of a script that are read at most.
+const SCRIPT_BYTES: u64 = 1 << 40;
+
+/// Does what the words say, which are those behind the program's name: `- replay` reads a script from the source
+/// and prints what the broker does. The answer is the status that the program exits with.
+pub fn tool<S: Source, K: Sink>(alloc: Global, words: &[String], src: &mut S, out: &mut K) -> u8
+    ensures words { (result ≡ 1) ↔ (lanes_in (map string_bytes words.now) ≡ None) }
+    ensures refused_words { result ≡ 1 → Keeps (S.left src.old) (S.left src.new) × AppendsLine (K.written out.old) (K.written out.new) (K.faults out.old) (K.faults out.new) [] fault_words }
+    ensures done { result ≡ 0 → IfSome (lanes_in (map string_bytes words.now)) (λ lanes. IsDone lanes (S.left src.old) (K.written out.old) (K.written out.new)) }
+    ensures unlawful { result ≡ 2 → IfSome (lanes_in (map string_bytes words.now)) (λ lanes. IsRefused lanes (S.left src.old) (K.written out.old) (K.written out.new) (K.faults out.old) (K.faults out.new)) }
+    ensures memory { result ≡ 4 → IfSome (lanes_in (map string_bytes words.now)) (λ lanes. IsCutOff lanes (S.left src.old) (K.written out.old) (K.written out.new)) }
+    ensures read { result ≡ 6 → IfSome (lanes_in (map string_bytes words.now)) (λ lanes. Rose (S.faults src.old) (S.faults src.new) × IsUnread lanes (S.left src.old) (S.left src.new) (K.written out.old) (K.written out.new) (K.faults out.old) (K.faults out.new)) }
+    ensures write { result ≡ 7 → IfSome (lanes_in (map string_bytes words.now)) (λ lanes. Rose (K.faults out.old) (K.faults out.new) × IsCutOff lanes (S.left src.old) (K.written out.old) (K.written out.new)) }
+    ensures complete { IfSome (lanes_in (map string_bytes words.now)) (λ lanes. IfSome (S.left src.old) (λ all. ¬ Rose (S.faults src.old) (S.faults src.new) → ¬ Rose (K.faults out.old) (K.faults out.new) → AnswersFor (script lanes (take (2 ^ 40) all)).ending result)) }
+{
+    code(run_tool(alloc, words, src, out))
+}
+
+fn run_tool<S: Source, K: Sink>(alloc: Global, words: &[String], src: &mut S, out: &mut K) -> Status
+    ensures words { (result ≡ Status.Words) ↔ (lanes_in (map string_bytes words.now) ≡ None) }
+    ensures refused_words { result ≡ Status.Words → Keeps (S.left src.old) (S.left src.new) × AppendsLine (K.written out.old) (K.written out.new) (K.faults out.old) (K.faults out.new) [] fault_words }
+    ensures rows { IfSome (lanes_in (map string_bytes words.now)) (λ lanes. IsRow lanes (S.left src.old) (S.left src.new) (S.faults src.old) (S.faults src.new) (K.written out.old) (K.written out.new) (K.faults out.old) (K.faults out.new) result) }
+{
+    match lanes_in_words(words) {
+        Some(lanes) => replay(alloc, lanes, src, out),
+        None => {
+            complain(b"fault words\n", out);
+            Status::Words
+        }
+    }
+}
+
+/// Runs the script of the source with so many lanes.
+fn replay<S: Source, K: Sink>(alloc: Global, lanes: u32, src: &mut S, out: &mut K) -> Status
+    requires { lanes ≤ 64 }
+    ensures row { IsRow lanes (S.left src.old) (S.left src.new) (S.faults src.old) (S.faults src.new) (K.written out.old) (K.written out.new) (K.faults out.old) (K.faults out.new) result }
+{
+    let Ok(mut broker) = Broker::new(alloc, &Limits::standard()) else {
+        return Status::NoMemory;
+    };
+    let mut progress = Progress {
+        lanes,
+        pending: Vec::new(alloc),
+        room: SCRIPT_BYTES,
+        lines: 0,
+    };
+    let run = run_script(alloc, &mut progress, &mut broker, src, out);
+    finish(alloc, run.halt, run.events, out)
+}
