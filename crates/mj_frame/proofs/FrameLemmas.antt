@@ -1,17 +1,15 @@
 -- Whole frames: no spelling is a proper front of another, and what is written is spelled.
-use Rattle.std.proofs.Common.{◌≡◌, ℕ, ◌+◌, ◌<◌, ◌≤◌, ◌^◌, ◌⊎◌, Bool, true, false, cond, ltb, List, [], ◌∷◌, ◌++◌, length, take, refl, sym, ap, subst, ◌∙◌, inl, inr, arith, append_assoc, append-nil, length-append, lt-ltb, le-ltb}
+use Rattle.std.proofs.Common.{◌≡◌, ℕ, ◌<◌, ◌≤◌, ◌^◌, Bool, true, false, cond, List, [], ◌∷◌, ◌++◌, length, refl, sym, ap, subst, ◌∙◌, inl, inr, arith, append_assoc, append-nil, length-append, lt-ltb, le-ltb}
 use Rattle.std.proofs.lemmas.Bool.{cases_lt}
-use Rattle.std.proofs.lemmas.List.{append_cancel_left, append_cancel_right}
 use Rattle.std.specs.List.{AllByRecursion}
 use Rattle.mj_frame.specs.declared.head.Head.{Head}
-use Rattle.mj_frame.specs.declared.head.HeadAnswer.{HeadAnswer}
 use Rattle.mj_frame.specs.declared.head.HeadAnswer.TheVariants as answers
 use Rattle.mj_frame.specs.FrameSpelling.{Frame, IsKind, IsHead, head_of, IsFrame, AreFrames, canonical_head, canonical, message_frames, message_octets, short_head, long_head}
 use Rattle.mj_frame.specs.HeadReading.{head_at}
 use Rattle.mj_frame.proofs.HeadLemmas.{every_head_is_read}
 
 -- two lists that begin one list, of the same length
-same_front : (a b x y : List ℕ) → length a ≡ length b → a ++ x ≡ b ++ y → (a ≡ b) × (x ≡ y)
+pub same_front : (a b x y : List ℕ) → length a ≡ length b → a ++ x ≡ b ++ y → (a ≡ b) × (x ≡ y)
 same_front [] [] x y l e = (refl, e)
 same_front [] (c ∷ b) x y l e = absurd (omega arith)
 same_front (c ∷ a) [] x y l e = absurd (omega arith)

@@ -1,5 +1,5 @@
 -- What reading the head of a frame gives, as a function of the bytes.
-use Rattle.std.specs.Prelude.{ℕ, zero, suc, ◌≡◌, Bool, true, false, List, [], ◌∷◌, length, take, drop, Option, Some, None, if◌then◌else◌, nat_lt, option_map}
+use Rattle.std.specs.Prelude.{ℕ, zero, suc, Bool, true, false, List, [], ◌∷◌, length, take, Option, Some, None, if◌then◌else◌, nat_lt}
 use Rattle.std.specs.Int.{from_be_bytes, w64}
 use Rattle.mj_frame.specs.declared.head.Head.{Head}
 use Rattle.mj_frame.specs.declared.head.Kind.{Kind}

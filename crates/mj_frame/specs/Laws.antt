@@ -1,5 +1,5 @@
 -- What holds of the spelling of frames, whatever reads them.
-use Rattle.std.specs.Prelude.{ℕ, ◌≡◌, ◌<◌, ◌^◌, Bool, List, [], ◌∷◌, ◌++◌, length}
+use Rattle.std.specs.Prelude.{ℕ, ◌≡◌, ◌<◌, ◌^◌, Bool, List, ◌++◌, length}
 use Rattle.std.specs.List.{AllByRecursion}
 use Rattle.mj_frame.specs.declared.head.Head.{Head}
 use Rattle.mj_frame.specs.declared.head.HeadAnswer.TheVariants as answers

@@ -1,11 +1,11 @@
 -- What stands next: it is within the bytes, and where it isn't Wait it stays when bytes come behind.
-use Rattle.std.proofs.Common.{◌≡◌, ◌≢◌, ℕ, zero, suc, ◌+◌, ◌-◌, ◌<◌, ◌≤◌, ◌⊎◌, Bool, true, false, not, cond, ◌&&◌, ltb, leb, List, [], ◌∷◌, ◌++◌, length, take, drop, Option, Some, None, Result, Ok, Err, sum_by, refl, sym, ap, subst, ◌∙◌, inl, inr, arith, length-append, length-drop, length-take, lt-ltb, le-ltb, ltb-true, ltb-false}
+use Rattle.std.proofs.Common.{◌≡◌, ℕ, ◌+◌, ◌-◌, ◌<◌, ◌≤◌, ◌⊎◌, Bool, true, false, not, cond, ◌&&◌, ltb, List, [], ◌∷◌, ◌++◌, length, take, drop, Option, Some, None, Result, Ok, Err, refl, sym, ap, subst, ◌∙◌, inl, inr, arith, length-append, length-drop, length-take, lt-ltb, le-ltb}
 use Rattle.std.proofs.lemmas.Bool.{cases_lt}
-use Rattle.std.proofs.lemmas.List.{take-append-le, drop-append-le, take_all, length-take-le}
+use Rattle.std.proofs.lemmas.List.{take-append-le, drop-append-le, take_all}
 use Rattle.std.proofs.Math.Seq.{take-append-add}
 use Rattle.mj_base.specs.declared.limits.Limits.{Limits}
 use Rattle.mj_base.specs.declared.reason.Reason.{Reason}
-use Rattle.mj_base.specs.declared.reason.Reason.TheVariants.{BadFlags, BadHandshake, TooMany, TooLong}
+use Rattle.mj_base.specs.declared.reason.Reason.TheVariants.{BadHandshake}
 use Rattle.mj_frame.specs.declared.head.Head.{Head}
 use Rattle.mj_frame.specs.declared.head.HeadAnswer.{HeadAnswer}
 use Rattle.mj_frame.specs.declared.head.HeadAnswer.TheVariants as answers
@@ -20,7 +20,7 @@ use Rattle.mj_wire.specs.declared.place.Stage.{Stage}
 use Rattle.mj_wire.specs.declared.place.Stage.TheVariants as stages
 use Rattle.mj_wire.specs.declared.next.Next.{Next}
 use Rattle.mj_wire.specs.declared.next.Next.TheVariants as next
-use Rattle.mj_wire.specs.NextReading.{in_handshake, has_ended, starts_message, head_fault, ready_next, body_next, whole_next, fault_or_whole, headed_next, short_next, answer_next, frame_next, whole_greeting, fault_or_greeting, greeting_next, stage_next, next_of}
+use Rattle.mj_wire.specs.NextReading.{in_handshake, has_ended, starts_message, head_fault, ready_next, body_next, whole_next, fault_or_whole, headed_next, short_next, answer_next, frame_next, fault_or_greeting, greeting_next, stage_next, next_of}
 
 -- it waits, or it stays
 abbrev pub Stays : Next → Next → Type 0
@@ -31,13 +31,13 @@ Stays before now = (before ≡ next.Wait) ⊎ (now ≡ before)
 whole_stays : (stage : Stage) (h : Head) (used : ℕ) (rest more : List ℕ) → Stays (whole_next stage h used rest) (whole_next stage h used (rest ++ more))
 whole_stays stage h used rest more =
     elim (cases_lt (length rest) h.size) [
-      inl lt ↦ let t : ltb (length rest) h.size ≡ true = lt-ltb _ _ lt in inl (ap (λ (b : Bool). cond b next.Wait (body_next stage h used (take h.size rest))) t)
-    | inr le ↦
-      let t : ltb (length rest) h.size ≡ false = le-ltb _ _ le in
-      let far : ltb (length (rest ++ more)) h.size ≡ false = le-ltb _ _ (omega (arith, length-append rest more)) in
-      inr (ap (λ (b : Bool). cond b next.Wait (body_next stage h used (take h.size (rest ++ more)))) far
-      ∙ ap (λ (b : List ℕ). body_next stage h used b) (take-append-le h.size rest more le)
-      ∙ sym (ap (λ (b : Bool). cond b next.Wait (body_next stage h used (take h.size rest))) t))
+      | inl lt ↦ let t : ltb (length rest) h.size ≡ true = lt-ltb _ _ lt in inl (ap (λ (b : Bool). cond b next.Wait (body_next stage h used (take h.size rest))) t)
+      | inr le ↦
+          let t : ltb (length rest) h.size ≡ false = le-ltb _ _ le in
+          let far : ltb (length (rest ++ more)) h.size ≡ false = le-ltb _ _ (omega (arith, length-append rest more)) in
+          inr (ap (λ (b : Bool). cond b next.Wait (body_next stage h used (take h.size (rest ++ more)))) far
+          ∙ ap (λ (b : List ℕ). body_next stage h used b) (take-append-le h.size rest more le)
+          ∙ sym (ap (λ (b : Bool). cond b next.Wait (body_next stage h used (take h.size rest))) t))
     ]
 
 fault_stays : (fault : Option Reason) (stage : Stage) (h : Head) (used : ℕ) (rest more : List ℕ)
@@ -90,8 +90,8 @@ answer_stays limits p octets more answers.Short e = short_stays limits p octets 
 answer_stays limits p octets more (answers.Head h n) e =
     let fits = head_used octets h n e in
     let now : answer_next (head_at (octets ++ more)) limits p (octets ++ more) ≡ headed_next limits p h n (drop n octets ++ more) =
-      ap (λ (a : HeadAnswer). answer_next a limits p (octets ++ more)) (head_stays octets more h n e)
-      ∙ ap (λ (r : List ℕ). headed_next limits p h n r) (drop-append-le n octets more fits.0) in
+    ap (λ (a : HeadAnswer). answer_next a limits p (octets ++ more)) (head_stays octets more h n e)
+    ∙ ap (λ (r : List ℕ). headed_next limits p h n r) (drop-append-le n octets more fits.0) in
     subst (λ (x : Next). Stays (headed_next limits p h n (drop n octets)) x) (sym now) (fault_stays (head_fault limits p h) p.stage h n (drop n octets) more)
 
 frame_stays : (limits : Limits) (p : Place) (octets more : List ℕ) → Stays (frame_next limits p octets) (frame_next limits p (octets ++ more))
@@ -129,11 +129,11 @@ old_stays octets more l (Some fault) = refl
 greeting_stays : (octets more : List ℕ) → Stays (greeting_next octets) (greeting_next (octets ++ more))
 greeting_stays octets more =
     elim (cases_lt (length octets) 64) [
-      inl lt ↦
-      let all : fault_of (take 64 octets) ≡ fault_of octets = ap fault_of (take_all 64 octets (omega arith)) in
-      subst (λ (f : Option GreetingFault). Stays (fault_or_greeting f octets) (greeting_next (octets ++ more))) (sym all) (young_stays octets more lt (fault_of octets) refl)
-    | inr le ↦
-      inr (ap (λ (t : List ℕ). fault_or_greeting (fault_of t) (octets ++ more)) (take-append-le 64 octets more le) ∙ old_stays octets more le (fault_of (take 64 octets)))
+      | inl lt ↦
+          let all : fault_of (take 64 octets) ≡ fault_of octets = ap fault_of (take_all 64 octets (omega arith)) in
+          subst (λ (f : Option GreetingFault). Stays (fault_or_greeting f octets) (greeting_next (octets ++ more))) (sym all) (young_stays octets more lt (fault_of octets) refl)
+      | inr le ↦
+          inr (ap (λ (t : List ℕ). fault_or_greeting (fault_of t) (octets ++ more)) (take-append-le 64 octets more le) ∙ old_stays octets more le (fault_of (take 64 octets)))
     ]
 
 -- ---- all stages
@@ -196,8 +196,8 @@ greeting_proper : (fault : Option GreetingFault) (octets : List ℕ) → IsPrope
 greeting_proper (Some fault) octets = tt
 greeting_proper None octets =
     elim (cases_lt (length octets) 64) [
-      inl lt ↦ let t : ltb (length octets) 64 ≡ true = lt-ltb _ _ lt in rw t tt
-    | inr le ↦ let t : ltb (length octets) 64 ≡ false = le-ltb _ _ le in rw t le
+      | inl lt ↦ let t : ltb (length octets) 64 ≡ true = lt-ltb _ _ lt in rw t tt
+      | inr le ↦ let t : ltb (length octets) 64 ≡ false = le-ltb _ _ le in rw t le
     ]
 
 stage_proper : (stage : Stage) (limits : Limits) (p : Place) (octets : List ℕ) → IsProper (stage_next stage limits p octets) octets

@@ -1,18 +1,17 @@
 -- The items of a stream, step by step, and the loop that reads them.
-use Rattle.std.proofs.Common.{◌≡◌, ◌≢◌, ℕ, zero, suc, ◌+◌, ◌-◌, ◌<◌, ◌≤◌, ◌⊎◌, Bool, true, false, cond, List, [], ◌∷◌, ◌++◌, length, take, drop, Option, Some, None, refl, sym, ap, subst, ◌∙◌, inl, inr, arith, length-append, length-drop, append_assoc, append-nil, drop-drop}
+use Rattle.std.proofs.Common.{◌≡◌, ◌≢◌, ℕ, zero, suc, ◌+◌, ◌-◌, ◌<◌, ◌≤◌, true, cond, List, [], ◌∷◌, ◌++◌, length, take, drop, Option, Some, None, refl, sym, ap, subst, ◌∙◌, inl, inr, arith, length-drop, append_assoc, append-nil, drop-drop}
 use Rattle.std.proofs.lemmas.List.{take-append-le, drop-append-le, nil_from_length}
 use Rattle.mj_base.specs.declared.limits.Limits.{Limits}
 use Rattle.mj_wire.specs.declared.item.WireItem.{WireItem}
 use Rattle.mj_wire.specs.declared.item.WireItem.TheVariants as items
 use Rattle.mj_wire.specs.declared.place.Place.{Place}
-use Rattle.mj_wire.specs.declared.place.Stage.{Stage}
 use Rattle.mj_wire.specs.declared.place.Stage.TheVariants as stages
 use Rattle.mj_wire.specs.declared.next.Next.{Next}
 use Rattle.mj_wire.specs.declared.next.Next.TheVariants as next
 use Rattle.mj_wire.specs.NextReading.{has_ended, next_of}
 use Rattle.mj_wire.specs.StreamItems.{count, step_of, body_of, passed, place_after, items_of, behind, one_more, items_within, items_from, start, stream_items, IsWithin}
 use Rattle.mj_wire.specs.WireState.{AppendsFront, IsReadTo, IsReadOut}
-use Rattle.mj_wire.proofs.NextLemmas.{Stays, next_stays, IsProper, next_proper, next_nil, next_ended}
+use Rattle.mj_wire.proofs.NextLemmas.{next_stays, IsProper, next_proper, next_nil, next_ended}
 
 -- ---- a step is proper
 
@@ -119,7 +118,7 @@ place_stays p octets more (next.Frame m from end) h = ap (λ (b : List ℕ). pas
 is_proper : (limits : Limits) (p : Place) (octets : List ℕ) (n : Next) → next_of limits p octets ≡ n → IsProper n octets
 is_proper limits p octets n e = subst (λ (m : Next). IsProper m octets) e (next_proper limits p octets)
 
-found_stays : (limits : Limits) (p : Place) (octets more : List ℕ) (n : Next) → next_of limits p octets ≡ n → n ≢ next.Wait → next_of limits p (octets ++ more) ≡ n
+pub found_stays : (limits : Limits) (p : Place) (octets more : List ℕ) (n : Next) → next_of limits p octets ≡ n → n ≢ next.Wait → next_of limits p (octets ++ more) ≡ n
 found_stays limits p octets more n e ne =
     elim (next_stays limits p octets more) [ inl wait ↦ absurd (ne (sym e ∙ wait)) | inr same ↦ same ∙ e ]
 
@@ -184,9 +183,11 @@ loop_more limits p q octets used step before now later n read e s l =
 pub loop_end : (limits : Limits) (p q : Place) (octets : List ℕ) (used : ℕ) (before now later : List WireItem) (n : Next)
     → IsReadTo limits p octets before q (drop used octets) now → next_of limits q (drop used octets) ≡ n → step_of n ≡ None → later ≡ now ++ items_of q (drop used octets) n
     → IsReadOut limits p octets before (place_after q (drop used octets) n) (drop used octets) later
-loop_end limits p q octets used before now later n read e s l =
-    (further limits p q (place_after q (drop used octets) n) octets (drop used octets) (drop used octets) before now later (items_of q (drop used octets) n) read l
-    (stop_goes limits q (drop used octets) n e s), stop_out limits q (drop used octets) n e s)
+loop_end limits p q octets used before now later n read e s l = (
+  further limits p q (place_after q (drop used octets) n) octets (drop used octets) (drop used octets) before now later (items_of q (drop used octets) n) read l
+      (stop_goes limits q (drop used octets) n e s),
+  stop_out limits q (drop used octets) n e s,
+)
 
 pub loop_part : (limits : Limits) (p q : Place) (octets rest : List ℕ) (before now : List WireItem) → IsReadTo limits p octets before q rest now
     → AppendsFront before (items_from limits p octets) now
@@ -213,10 +214,11 @@ pub taken_more : (limits : Limits) (p q q' : Place) (octets rest : List ℕ) (us
 taken_more limits p q q' octets rest used step before now later n found (u, read) r e f s pl l =
     let at : next_of limits q (drop used octets) ≡ n = ap (λ (o : List ℕ). next_of limits q o) (sym r) ∙ sym e in
     let grown : later ≡ now ++ items_of q (drop used octets) n = l ∙ ap (λ (o : List ℕ). now ++ items_of q o n) r in
-    let place : place_after q (drop used octets) n ≡ q' = ap (λ (o : List ℕ). place_after q o n) (sym r) ∙ sym pl in
-    ((taken_step limits q octets rest used step n found u r e f s).1,
-    subst (λ (x : Place). IsReadTo limits p octets before x (drop (used + step) octets) later) place
-    (loop_more limits p q octets used step before now later n read at (sym f ∙ s) grown))
+    let place : place_after q (drop used octets) n ≡ q' = ap (λ (o : List ℕ). place_after q o n) (sym r) ∙ sym pl in (
+      (taken_step limits q octets rest used step n found u r e f s).1,
+      subst (λ (x : Place). IsReadTo limits p octets before x (drop (used + step) octets) later) place
+          (loop_more limits p q octets used step before now later n read at (sym f ∙ s) grown),
+    )
 
 pub taken_end : (limits : Limits) (p q q' : Place) (octets rest : List ℕ) (used : ℕ) (before now later : List WireItem) (n : Next) (found : Option ℕ)
     → IsReadTo limits p octets before q (drop used octets) now → rest ≡ drop used octets

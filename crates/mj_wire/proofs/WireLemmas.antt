@@ -1,5 +1,5 @@
 -- A piece, and the wire that took it.
-use Rattle.std.proofs.Common.{◌≡◌, ℕ, ◌+◌, ◌-◌, ◌^◌, ◌≤◌, min, Bool, true, false, List, [], ◌∷◌, ◌++◌, length, take, drop, refl, sym, ap, subst, ◌∙◌, arith, length-append, append_assoc, append-nil}
+use Rattle.std.proofs.Common.{◌≡◌, ℕ, ◌+◌, true, List, [], ◌++◌, length, drop, sym, ap, subst, ◌∙◌, arith, length-append, append_assoc, append-nil}
 use Rattle.std.proofs.Math.Seq.{drop-append_seam}
 use Rattle.mj_base.specs.declared.limits.Limits.{Limits}
 use Rattle.mj_wire.specs.declared.item.WireItem.{WireItem}
@@ -57,7 +57,7 @@ new_stands limits w l p r t = record {
   limited = l;
   counted = t;
   goes_on = λ more. sym (ap (λ (x : List WireItem). x ++ items_from limits w.place (w.rest ++ more)) (items_nil limits start)
-    ∙ ap (λ (q : Place). items_from limits q (w.rest ++ more)) p ∙ ap (λ (o : List ℕ). items_from limits start (o ++ more)) r);
+      ∙ ap (λ (q : Place). items_from limits q (w.rest ++ more)) p ∙ ap (λ (o : List ℕ). items_from limits start (o ++ more)) r);
 }
 
 -- of the wire's own limits, as they were given

@@ -39,6 +39,10 @@ NoCutExactly = (limits : Limits) (stream : List ℕ) → HasNoCut limits stream 
 abbrev pub NoCutIsRead : Type 0
 NoCutIsRead = (limits : Limits) (stream : List ℕ) → HasNoCut limits stream → stream_items limits stream ≡ greeting_end (fault_of (take 64 stream))
 
+-- a longer stream has the items of the shorter one first
+abbrev pub PiecesAdd : Type 0
+PiecesAdd = (limits : Limits) (stream piece : List ℕ) → (left : List WireItem) × (stream_items limits (stream ++ piece) ≡ stream_items limits stream ++ left)
+
 abbrev pub HasEnded : List WireItem → Type 0
 HasEnded found = (before : List WireItem) × (reason : Reason) × (at : ℕ) × (found ≡ before ++ items.Ended reason at ∷ [])
 

@@ -1,5 +1,5 @@
 -- Cuts of a stream: an accepted greeting and whole frames behind it, within the limits (ZeroMQ RFC 23).
-use Rattle.std.specs.Prelude.{ℕ, ◌≡◌, ◌+◌, ◌≤◌, ◌<◌, Bool, true, false, List, [], ◌∷◌, ◌++◌, length, map, sum_by, Result, Ok, Err, IsTrue, IsOk, if◌then◌else◌}
+use Rattle.std.specs.Prelude.{ℕ, ◌≡◌, ◌≤◌, List, [], ◌∷◌, ◌++◌, length, map, sum_by, Result, Ok, Err, IsTrue, IsOk, if◌then◌else◌}
 use Rattle.std.specs.List.{AllByRecursion}
 use Rattle.mj_base.specs.declared.limits.Limits.{Limits}
 use Rattle.mj_base.specs.declared.reason.Reason.{Reason}

@@ -1,9 +1,8 @@
 -- The fault of a stream behind its longest cut: the first row of the table that the rest meets.
-use Rattle.std.specs.Prelude.{ℕ, ◌+◌, Bool, true, false, not, ◌&&◌, nat_lt, nat_le, List, [], ◌∷◌, length, take, drop, sum_by, Option, Some, None, Result, Ok, Err, if◌then◌else◌}
+use Rattle.std.specs.Prelude.{ℕ, Bool, true, false, not, ◌&&◌, nat_lt, nat_le, List, [], ◌∷◌, length, take, drop, sum_by, Option, Some, None, Result, Ok, Err, if◌then◌else◌}
 use Rattle.mj_base.specs.declared.limits.Limits.{Limits}
 use Rattle.mj_base.specs.declared.reason.Reason.{Reason}
 use Rattle.mj_base.specs.declared.reason.Reason.TheVariants.{BadFlags, BadHandshake, TooMany, TooLong}
-use Rattle.mj_frame.specs.declared.head.Head.{Head}
 use Rattle.mj_frame.specs.declared.head.HeadAnswer.{HeadAnswer}
 use Rattle.mj_frame.specs.declared.head.HeadAnswer.TheVariants as answers
 use Rattle.mj_frame.specs.FrameSpelling.{Frame}

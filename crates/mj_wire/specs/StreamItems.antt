@@ -1,5 +1,5 @@
 -- The items of a whole stream, in order, with its fault as the last one where it has a fault (ZeroMQ RFC 23).
-use Rattle.std.specs.Prelude.{ℕ, zero, suc, ◌≡◌, ◌+◌, ◌-◌, ◌^◌, ◌≤◌, ◌<◌, min, Bool, List, [], ◌∷◌, ◌++◌, length, take, drop, Option, Some, None, if◌then◌else◌}
+use Rattle.std.specs.Prelude.{ℕ, zero, suc, ◌+◌, ◌-◌, ◌^◌, ◌≤◌, min, List, [], ◌∷◌, ◌++◌, length, take, drop, Option, Some, None, if◌then◌else◌}
 use Rattle.mj_base.specs.declared.limits.Limits.{Limits}
 use Rattle.mj_wire.specs.declared.item.WireItem.{WireItem}
 use Rattle.mj_wire.specs.declared.item.WireItem.TheVariants as items

@@ -3,12 +3,14 @@
 #![tactic(auto)]
 
 mod item;
+mod laws;
 mod next;
 mod place;
 mod read;
 mod wire;
 
 pub use item::WireItem;
+pub use laws::{items_stay, longest_cut_is_read, no_cut_is_read};
 pub use wire::Wire;
 
 #[cfg(test)]

@@ -25,7 +25,13 @@ impl Model for Wire {
 
     ghost Value = { State };
 
-    ghost view = { λ w. record { limits = w.limits; place = w.place; rest = w.rest.items; taken = w.taken; spent = w.spent } };
+    ghost view = { λ w. record {
+      limits = w.limits;
+      place = w.place;
+      rest = w.rest.items;
+      taken = w.taken;
+      spent = w.spent;
+    } };
 }
 
 impl Wire {
@@ -59,9 +65,12 @@ impl Wire {
         items: &mut Vec<WireItem>,
     ) -> Result<(), NoMemory>
         requires { self.old.spent ≡ false }
-        ensures stream { OnOk result ((limits : Lim) (stream : List ℕ) → StandsFor limits self.old stream → StandsFor limits self.new (stream ++ piece.now)) }
-        ensures items { OnOk result ((limits : Lim) (stream : List ℕ) → StandsFor limits self.old stream → items.new.items ≡ items.old.items ++ gained limits stream piece.now) }
-        ensures part { OnErr result ((limits : Lim) (stream : List ℕ) → StandsFor limits self.old stream → AppendsFront items.old.items (gained limits stream piece.now) items.new.items) }
+        ensures stream { OnOk result ((limits : Lim) (stream : List ℕ) → StandsFor limits self.old stream
+            → StandsFor limits self.new (stream ++ piece.now)) }
+        ensures items { OnOk result ((limits : Lim) (stream : List ℕ) → StandsFor limits self.old stream
+            → items.new.items ≡ items.old.items ++ gained limits stream piece.now) }
+        ensures part { OnErr result ((limits : Lim) (stream : List ℕ) → StandsFor limits self.old stream
+            → AppendsFront items.old.items (gained limits stream piece.now) items.new.items) }
         ensures ready { OnOk result (self.new.spent ≡ false) }
         ensures spent { OnErr result (self.new.spent ≡ true) }
         ensures counts { OnOk result (self.new.taken ≡ count (self.old.taken + length piece.now)) }

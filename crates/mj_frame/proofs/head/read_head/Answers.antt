@@ -1,4 +1,4 @@
-use Rattle.std.proofs.Common.{◌≡◌, ℕ, ◌<◌, ◌↔◌, List, get_or, sym, subst, arith}
+use Rattle.std.proofs.Common.{◌≡◌, ◌↔◌, sym, subst, arith}
 use Rattle.mj_frame.specs.declared.head.HeadAnswer.{HeadAnswer}
 use Rattle.mj_frame.specs.declared.head.HeadAnswer.TheVariants as answers
 use Rattle.mj_frame.specs.FrameSpelling.{IsBytes, StartsHead, StartsWrong}

@@ -1,4 +1,4 @@
-use Rattle.std.proofs.Common.{◌≡◌, ◌<◌, Option, Some, None, slice_get, option_copied, List, [], ℕ, sym, ap, ◌∙◌, length, arith}
+use Rattle.std.proofs.Common.{◌≡◌, ◌<◌, Some, None, slice_get, option_copied, [], sym, ap, ◌∙◌, length, arith}
 use Rattle.std.proofs.lemmas.Option.{slice_get-get_or}
 use Rattle.mj_frame.proofs.MessageLemmas.{message_more, grows_more}
 use Rattle.mj_frame.proofs.write.append_message.Goals as goal

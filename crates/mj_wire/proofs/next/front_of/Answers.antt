@@ -1,4 +1,4 @@
-use Rattle.std.proofs.Common.{sym, arith, length}
+use Rattle.std.proofs.Common.{sym, arith}
 use Rattle.std.proofs.lemmas.List.{take_all}
 use Rattle.mj_wire.proofs.next.front_of.Goals as goal
 

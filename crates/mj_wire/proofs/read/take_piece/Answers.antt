@@ -1,4 +1,4 @@
-use Rattle.std.proofs.Common.{◌≡◌, true, List, ℕ, sym, ◌∙◌}
+use Rattle.std.proofs.Common.{◌≡◌, true, ◌∙◌}
 use Rattle.mj_wire.specs.NextReading.{has_ended}
 use Rattle.mj_wire.proofs.WireLemmas.{ended_piece, ended_rest, read_of}
 use Rattle.mj_wire.proofs.read.take_piece.Goals as goal
