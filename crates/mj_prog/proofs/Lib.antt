@@ -8,3 +8,4 @@ pub mod StatusLaws
 pub mod Rows
 pub mod Filling
 pub mod Digits
+pub mod Pieces

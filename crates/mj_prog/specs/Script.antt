@@ -1,8 +1,8 @@
 -- Scripts: a text of lines, each of which is an event, `stop`, or unlawful.
-use Rattle.std.specs.Prelude.{ℕ, ◌+◌, ◌<◌, ◌==◌, ◌≡◌, ⊤, Bool, nat_lt, nat_le, nat_eq, ◌&&◌, List, [], ◌∷◌, length, take, drop, Option, Some, None, Result, Ok, Err, if◌then◌else◌, codes}
-use Rattle.std.specs.List.{position, starts_with}
+use Rattle.std.specs.Prelude.{ℕ, ◌+◌, ◌%◌, ◌<◌, ◌≤◌, ◌≡◌, ◌⊎◌, ◌↔◌, IsSome, ⊤, Bool, nat_lt, nat_le, nat_eq, ◌&&◌, List, [], ◌∷◌, length, take, drop, Option, Some, None, Result, Ok, Err, if◌then◌else◌, codes}
+use Rattle.std.specs.List.{position, starts_with, AllPass}
 use Rattle.std.specs.Str.{bytes_eq}
-use Rattle.hex.specs.Hex.{decode_of}
+use Rattle.hex.specs.Hex.{decode_of, encode_lower, encode_upper, is_hex_digit, IsBytes}
 use Rattle.hex.specs.declared.error.FromHexError.{FromHexError}
 use Rattle.mj_base.specs.declared.event.Event.{Event}
 use Rattle.mj_base.specs.declared.event.Event.TheVariants as events
@@ -49,6 +49,12 @@ decoded (Err e) = None
 
 abbrev pub piece_of : List ℕ → Option (List ℕ)
 piece_of digits = if nat_lt 0 (length digits) && nat_le (length digits) 131072 then decoded (decode_of digits) else None
+
+-- a piece is written as its bytes in hex, of lower or of upper case; and it is an even number of hex digits, from 2 to 131,072
+abbrev pub PiecesAreHex : List ℕ → Type 0
+PiecesAreHex digits =
+    (IsSome (piece_of digits) ↔ ((0 < length digits) × (length digits ≤ 131072) × (length digits % 2 ≡ 0) × AllPass is_hex_digit digits))
+    × ((bytes : List ℕ) → 0 < length bytes → length bytes ≤ 65536 → IsBytes bytes → (digits ≡ encode_lower bytes) ⊎ (digits ≡ encode_upper bytes) → piece_of digits ≡ Some bytes)
 
 -- what stands behind these bytes, where the text starts with them
 abbrev pub behind : List ℕ → List ℕ → Option (List ℕ)

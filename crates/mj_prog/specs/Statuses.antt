@@ -1,5 +1,5 @@
 -- The numbers that the program exits with.
-use Rattle.std.specs.Prelude.{ℕ}
+use Rattle.std.specs.Prelude.{ℕ, ◌≡◌}
 use Rattle.mj_prog.specs.declared.status.Status.{Status}
 use Rattle.mj_prog.specs.declared.status.Status.TheVariants as statuses
 
@@ -10,3 +10,7 @@ code_of statuses.Line = 2
 code_of statuses.NoMemory = 4
 code_of statuses.Read = 6
 code_of statuses.Write = 7
+
+-- one of these numbers
+abbrev pub IsStatus : ℕ → Type 0
+IsStatus number = (status : Status) × (number ≡ code_of status)

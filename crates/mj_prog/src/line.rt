@@ -1,6 +1,7 @@
 ghost use Rattle.std.specs.Prelude.{◌≡◌, ◌<◌, IfOk, IfSome, length};
 ghost use Rattle.std.specs.List.{position};
-ghost use Rattle.mj_prog.specs.Script.{is_space, meaning_of, event_of, open_on, bytes_of, bytes_at, bytes_on, lane_of, piece_of};
+ghost use Rattle.mj_prog.specs.Script.{is_space, meaning_of, event_of, open_on, bytes_of, bytes_at, bytes_on, lane_of, piece_of, decoded, PiecesAreHex};
+ghost use Rattle.hex.specs.Hex.{decode_of};
 ghost use Rattle.mj_prog.specs.ReadSoFar.{MeaningIsTaken, EventIsTaken, IsPiece};
 
 use super::meaning::Meaning;
@@ -118,13 +119,21 @@ fn read_lane(lanes: u32, text: &[u8]) -> Option<u32>
     }
 }
 
+/// Reads a piece: 2 to 131,072 hex digits of either case, an even number of them.
 fn read_piece(alloc: Global, digits: &[u8]) -> Result<Option<Octets>, NoMemory>
     ensures exact { IfOk result (λ piece. piece ≡ piece_of digits.now) }
     ensures sized { IfOk result (λ piece. IfSome piece IsPiece) }
+    ensures hex { PiecesAreHex digits.now }
 {
     if digits.is_empty() || digits.len() > PIECE_DIGITS {
         return Ok(None);
     }
+    decode_piece(alloc, digits)
+}
+
+fn decode_piece(alloc: Global, digits: &[u8]) -> Result<Option<Octets>, NoMemory>
+    ensures { IfOk result (λ piece. piece ≡ decoded (decode_of digits.now)) }
+{
     match hex::decode(alloc, digits) {
         Ok(bytes) => {
             let mut piece = Octets::new(alloc);

@@ -18,6 +18,8 @@ mod tests;
 mod tool;
 mod turn;
 mod words;
+#[cfg(test)]
+mod worked_runs;
 
 use mj_base::{StdSink, StdSource};
 use std::alloc::Global;

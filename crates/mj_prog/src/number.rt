@@ -1,10 +1,11 @@
 ghost use Rattle.std.specs.Prelude.{◌≡◌, ◌≤◌, IsTrue, length};
 ghost use Rattle.mj_prog.specs.Numbers;
-ghost use Rattle.mj_prog.specs.Numbers.{number_of, digits_onto};
+ghost use Rattle.mj_prog.specs.Numbers.{number_of, digits_onto, NumbersAreDecimal};
 
 /// Reads a number: 1 to 19 decimal digits without a leading zero, save `0` itself.
 pub fn read_number(text: &[u8]) -> Option<u64>
     ensures exact { result ≡ number_of text.now }
+    ensures decimal { NumbersAreDecimal text.now }
 {
     if is_number(text) {
         Some(value(text))

@@ -5,6 +5,7 @@ ghost use Rattle.mj_prog.specs.Words.{lanes_in};
 ghost use Rattle.mj_prog.specs.Script.{script};
 ghost use Rattle.mj_prog.specs.Shown.{fault_words};
 ghost use Rattle.mj_prog.specs.ReplayTable.{IsDone, IsRefused, IsCutOff, IsUnread, AppendsLine, AnswersFor};
+ghost use Rattle.mj_prog.specs.Statuses.{IsStatus};
 ghost use Rattle.mj_prog.specs.StatusRows.{IsRow};
 ghost use Rattle.mj_prog.specs.declared.status.Status;
 
@@ -23,6 +24,7 @@ const SCRIPT_BYTES: u64 = 1 << 40;
 /// Does what the words say, which are those behind the program's name: `- replay` reads a script from the source
 /// and prints what the broker does. The answer is the status that the program exits with.
 pub fn tool<S: Source, K: Sink>(alloc: Global, words: &[String], src: &mut S, out: &mut K) -> u8
+    ensures statuses { IsStatus result }
     ensures words { (result ≡ 1) ↔ (lanes_in (map string_bytes words.now) ≡ None) }
     ensures refused_words { result ≡ 1 → Keeps (S.left src.old) (S.left src.new) × AppendsLine (K.written out.old) (K.written out.new) (K.faults out.old) (K.faults out.new) [] fault_words }
     ensures done { result ≡ 0 → IfSome (lanes_in (map string_bytes words.now)) (λ lanes. IsDone lanes (S.left src.old) (K.written out.old) (K.written out.new)) }

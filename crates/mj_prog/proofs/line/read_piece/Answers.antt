@@ -1,10 +1,14 @@
-use Rattle.std.proofs.Common.{◌≡◌, ◌<◌, List, ℕ, length, arith, rules}
-use Rattle.hex.proofs.HexLemmas.{decode_of-ok}
+use Rattle.std.proofs.Common.{◌≡◌, ◌<◌, length, arith, rules}
+use Rattle.mj_prog.proofs.Pieces.{pieces-are-hex, piece-sized}
 use Rattle.mj_prog.proofs.line.read_piece.Goals as goal
 
-pub returns-in_ok-push_all-in-Ok-clause-sized : goal.returns-in_ok-push_all-in-Ok-clause-sized
-returns-in_ok-push_all-in-Ok-clause-sized c =
-    let digits = decode_of-ok c.args.digits.now c.in-Ok.bytes.items c.in-Ok.ensures.ok in
-    let same : c.push_all.new.self ≡ c.in-Ok.bytes.items = search rules in
+pub returns-then-is_empty-clause-hex : goal.returns-then-is_empty-clause-hex
+returns-then-is_empty-clause-hex c = pieces-are-hex c.args.digits.now
+
+pub returns-clause-hex : goal.returns-clause-hex
+returns-clause-hex c = pieces-are-hex c.args.digits.now
+
+pub returns-clause-sized : goal.returns-clause-sized
+returns-clause-sized c =
     let some : 0 < length c.args.digits.now = search rules in
-    rw same (omega (arith, digits.2), omega (arith, digits.2))
+    piece-sized c.args.digits.now c.decode_piece.result some c.if-digits-gt-PIECE_DIGITS.false c.decode_piece.ensures

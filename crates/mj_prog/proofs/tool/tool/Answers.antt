@@ -50,3 +50,6 @@ returns-clause-complete g c =
     answers (lanes_in (map string_bytes c.args.words.now)) (g.S.Source.left c.args.src.now) (g.S.Source.left c.run_tool.new.src) (g.K.Sink.written c.args.out.now) (g.K.Sink.written c.run_tool.new.out)
     (g.S.Source.faults c.args.src.now) (g.S.Source.faults c.run_tool.new.src) (g.K.Sink.faults c.args.out.now) (g.K.Sink.faults c.run_tool.new.out)
     c.code.result c.run_tool.result c.run_tool.ensures.rows c.code.ensures
+
+pub returns-clause-statuses : goal.returns-clause-statuses
+returns-clause-statuses g c = (c.run_tool.result, c.code.ensures)
