@@ -1,5 +1,5 @@
 -- When a broker stands for a state of the machine.
-use Rattle.std.specs.Prelude.{ℕ, ◌≡◌, Bool, false, List, length, get_or, Option, Some, None, ⊤}
+use Rattle.std.specs.Prelude.{ℕ, ◌≡◌, false, List, length, get_or, Option, Some, None, ⊤}
 use Rattle.mj_base.specs.declared.limits.Limits.{Limits}
 use Rattle.mj_wire.specs.WireState.{State as WireValue}
 use Rattle.mj_wire.specs.WireState.{StandsFor}

@@ -1,9 +1,8 @@
 -- Laws of a buffer that was grown, read into and cut.
-use Rattle.std.proofs.Common.{◌≡◌, ◌<◌, ◌≤◌, ◌+◌, ◌-◌, ℕ, List, [], ◌∷◌, ◌++◌, length, take, drop, Option, refl, sym, ap, ◌∙◌, subst, arith, length-append, take-append-drop}
+use Rattle.std.proofs.Common.{◌≡◌, ◌≤◌, ◌+◌, ℕ, List, ◌++◌, length, take, drop, Option, sym, ap, ◌∙◌, arith, take-append-drop}
 use Rattle.std.proofs.lemmas.List.{length-take-le, length-drop}
 use Rattle.std.proofs.Math.Seq.{take-append-add, take-append_seam}
 use Rattle.mj_prog.proofs.Lists.{take-all}
-use Rattle.std.specs.Io.KnownBytes.{Consumes, Keeps, IsAtEnd}
 use Rattle.mj_base.specs.Reading.{ReadTakes}
 use Rattle.mj_base.specs.declared.source.ReadAnswer.{ReadAnswer}
 use Rattle.mj_base.specs.declared.source.ReadAnswer.TheVariants as reads

@@ -1,16 +1,14 @@
 -- Laws of the rows of the statuses.
-use Rattle.std.proofs.Common.{◌≡◌, ◌≤◌, ◌^◌, ◌+◌, ℕ, List, [], ◌∷◌, ◌++◌, length, take, Option, Some, None, ◌⊎◌, inl, inr, refl, sym, ap, ◌∙◌, subst, append-nil, arith}
-use Rattle.std.specs.Io.KnownBytes.{Appends, Keeps}
+use Rattle.std.proofs.Common.{◌≡◌, ◌≤◌, ℕ, List, [], ◌++◌, length, Option, refl, sym, ap, ◌∙◌, subst, append-nil, arith}
+use Rattle.std.specs.Io.KnownBytes.{Appends}
 use Rattle.std.proofs.KnownBytes.{Appends-trans, Appends-kept, Appends-nil, Consumes-nil}
-use Rattle.mj_base.specs.Rising.{Rose}
 use Rattle.mj_base.specs.Writing.{AppendsFront, WriteAdds, WriteCause}
 use Rattle.mj_base.specs.declared.sink.WriteAnswer.{WriteAnswer}
 use Rattle.mj_base.specs.declared.sink.WriteAnswer.TheVariants as writes
 use Rattle.mj_prog.specs.declared.turn.Halt.TheVariants as halts
-use Rattle.mj_prog.specs.declared.status.Status.TheVariants as statuses
 use Rattle.mj_prog.specs.Script.{Ending, WithText, AtStop, AtUnlawful, IsLawful, script}
-use Rattle.mj_prog.specs.Shown.{done_line, fault_line}
-use Rattle.mj_prog.specs.ReplayTable.{IsInput, IsDone, IsCutOff, printed, output, last_line, AppendsLine}
+use Rattle.mj_prog.specs.Shown.{done_line}
+use Rattle.mj_prog.specs.ReplayTable.{IsInput, IsCutOff, printed, output, last_line}
 use Rattle.mj_prog.specs.Running.{IsHalted}
 use Rattle.mj_prog.specs.StatusRows.{IsRow, status_after}
 use Rattle.mj_prog.proofs.Inputs.{text-reading}

@@ -1,7 +1,7 @@
 -- Laws of a run of the broker over a script.
-use Rattle.std.proofs.Common.{◌≡◌, ◌<◌, ◌≤◌, ◌+◌, ◌-◌, ◌^◌, ℕ, zero, suc, List, [], ◌∷◌, ◌++◌, length, take, drop, Option, Some, None, refl, sym, ap, ◌∙◌, subst, append_assoc, append-nil, arith, length-append}
-use Rattle.std.specs.Io.KnownBytes.{Appends, Consumes, Keeps}
-use Rattle.std.proofs.KnownBytes.{Appends-trans, Appends-kept, Appends-nil, Consumes-nil}
+use Rattle.std.proofs.Common.{◌≡◌, ◌+◌, ◌^◌, ℕ, List, [], ◌∷◌, ◌++◌, length, Option, refl, sym, ap, ◌∙◌, subst, append_assoc, append-nil, arith, length-append}
+use Rattle.std.specs.Io.KnownBytes.{Appends}
+use Rattle.std.proofs.KnownBytes.{Appends-trans, Appends-nil, Consumes-nil}
 use Rattle.mj_base.specs.Writing.{AppendsFront}
 use Rattle.mj_base.specs.StandardLimits.{standard_limits}
 use Rattle.mj_base.specs.declared.event.Event.{Event}
@@ -14,13 +14,12 @@ use Rattle.mj_broker.specs.EventStep.{state_after, outs_of}
 use Rattle.mj_broker.specs.MachineRun.{run_state, run_outs}
 use Rattle.mj_broker.specs.BrokerState.{IsAt}
 use Rattle.mj_broker.proofs.MachineRun.{run_state-append, run_outs-append}
-use Rattle.mj_prog.specs.declared.turn.Halt.{Halt}
 use Rattle.mj_prog.specs.declared.turn.Halt.TheVariants as halts
 use Rattle.mj_prog.specs.declared.next.Next.TheVariants as nexts
-use Rattle.mj_prog.specs.Script.{script, IsLawful, WithText, AtUnlawful, ended_part}
+use Rattle.mj_prog.specs.Script.{script}
 use Rattle.mj_prog.specs.Shown.{shown}
 use Rattle.mj_prog.specs.ReplayTable.{IsInput, printed}
-use Rattle.mj_prog.specs.ReadSoFar.{IsSoFar, IsRead, IsNext}
+use Rattle.mj_prog.specs.ReadSoFar.{IsSoFar, IsNext}
 use Rattle.mj_prog.specs.Running.{Takes, IsRunning, IsHalted, IsTurn, halt_after}
 use Rattle.mj_prog.proofs.SoFar.{acted-nothing, text-of}
 use Rattle.mj_prog.proofs.Printing.{shown-append, front-of, front-behind}

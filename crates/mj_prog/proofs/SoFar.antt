@@ -1,5 +1,5 @@
 -- Laws of how far a script was acted on.
-use Rattle.std.proofs.Common.{◌≡◌, ◌<◌, ◌≤◌, ◌+◌, ◌-◌, ◌^◌, ℕ, zero, suc, Bool, true, false, List, [], ◌∷◌, ◌++◌, length, take, drop, Option, Some, None, Result, Ok, Err, IfOk, refl, sym, ap, ◌∙◌, subst, append_assoc, append-nil, arith, length-append, nat_lt}
+use Rattle.std.proofs.Common.{◌≡◌, ◌<◌, ◌≤◌, ◌+◌, ◌-◌, ℕ, true, List, [], ◌∷◌, ◌++◌, length, take, drop, Option, Result, Ok, Err, IfOk, refl, sym, ap, ◌∙◌, subst, append_assoc, append-nil, arith, length-append, nat_lt}
 use Rattle.std.proofs.lemmas.Bool.Decides.{nat_tests}
 use Rattle.std.specs.Io.KnownBytes.{Consumes, Keeps, IsAtEnd}
 use Rattle.mj_base.specs.declared.event.Event.{Event}
@@ -9,7 +9,7 @@ use Rattle.mj_prog.specs.declared.meaning.Meaning.{Meaning}
 use Rattle.mj_prog.specs.declared.meaning.Meaning.TheVariants as meanings
 use Rattle.mj_prog.specs.declared.next.Next.{Next}
 use Rattle.mj_prog.specs.declared.next.Next.TheVariants as nexts
-use Rattle.mj_prog.specs.Script.{Ending, WithText, AtUnlawful, IsLawful, lines_of, ended_part, events_in, events_on, ending_in, ending_on, script, meaning_of}
+use Rattle.mj_prog.specs.Script.{Ending, IsLawful, lines_of, ended_part, events_in, events_on, ending_in, ending_on, script, meaning_of}
 use Rattle.mj_prog.specs.ReplayTable.{IsInput}
 use Rattle.mj_prog.specs.ReadSoFar.{HasNoNewline, IsNewlineAt, IsActedOn, IsRead, IsSoFar, IsNext, MeansNext, NextCause}
 use Rattle.mj_prog.proofs.ScriptLines.{lines-newline, lines-last, lines-ended, lines-long, ended-newline, ended-nothing}

@@ -1,5 +1,5 @@
 -- Laws of statuses and their numbers.
-use Rattle.std.proofs.Common.{◌≡◌, ℕ, ◌^◌, List, take, Option, Some, None, IfSome, ◌⊎◌, inl, inr, ◌↔◌, refl, sym, ap, ◌∙◌, subst, arith}
+use Rattle.std.proofs.Common.{◌≡◌, ℕ, ◌^◌, List, take, Option, Some, None, IfSome, inl, inr, refl, sym, ◌∙◌, subst, arith}
 use Rattle.mj_base.specs.Rising.{Rose}
 use Rattle.mj_prog.specs.declared.status.Status.{Status}
 use Rattle.mj_prog.specs.declared.status.Status.TheVariants as statuses

@@ -2,9 +2,8 @@
 use Rattle.std.specs.Prelude.{ℕ, ◌≡◌, ◌+◌, ◌<◌, ◌≤◌, ◌^◌, ⊤, false, List, [], ◌∷◌, ◌++◌, length, take, drop, Option, Some, None, Result, Ok, Err}
 use Rattle.mj_base.specs.declared.memory.NoMemory.{NoMemory}
 use Rattle.mj_prog.specs.declared.progress.Progress.{Progress}
-use Rattle.std.specs.Io.KnownBytes.{Appends, Consumes, Keeps, IsAtEnd}
+use Rattle.std.specs.Io.KnownBytes.{Consumes, Keeps, IsAtEnd}
 use Rattle.mj_base.specs.declared.event.Event.{Event}
-use Rattle.mj_base.specs.declared.event.Event.TheVariants as events
 use Rattle.mj_base.specs.declared.source.ReadAnswer.{ReadAnswer}
 use Rattle.mj_base.specs.declared.source.ReadAnswer.TheVariants as reads
 use Rattle.mj_base.specs.Rising.{Rose}
@@ -17,7 +16,7 @@ use Rattle.mj_prog.specs.declared.meaning.Meaning.{Meaning}
 use Rattle.mj_prog.specs.declared.meaning.Meaning.TheVariants as meanings
 use Rattle.mj_prog.specs.declared.next.Next.{Next}
 use Rattle.mj_prog.specs.declared.next.Next.TheVariants as nexts
-use Rattle.mj_prog.specs.Script.{Ending, WithText, AtUnlawful, IsLawful, is_newline, lines_of, ended_part, events_in, ending_in, script, meaning_of}
+use Rattle.mj_prog.specs.Script.{WithText, AtUnlawful, IsLawful, is_newline, lines_of, ended_part, events_in, ending_in, script}
 use Rattle.mj_prog.specs.ReplayTable.{IsInput}
 
 abbrev pub HasNoNewline : List ℕ → Type 0

@@ -1,5 +1,5 @@
 -- How a run of the broker over a script goes.
-use Rattle.std.specs.Prelude.{ℕ, ◌≡◌, ◌+◌, ⊤, Bool, false, List, [], ◌∷◌, ◌++◌, length, Option, Some, None}
+use Rattle.std.specs.Prelude.{ℕ, ◌≡◌, ◌+◌, ⊤, Bool, false, List, length, Option, Some, None}
 use Rattle.std.specs.Io.KnownBytes.{Appends, Consumes}
 use Rattle.mj_base.specs.declared.event.Event.{Event}
 use Rattle.mj_base.specs.declared.sink.WriteAnswer.{WriteAnswer}

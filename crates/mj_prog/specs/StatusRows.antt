@@ -1,5 +1,5 @@
 -- What a replay's status says, before it is made a number.
-use Rattle.std.specs.Prelude.{ℕ, ◌≡◌, List, [], ◌++◌, length, Option}
+use Rattle.std.specs.Prelude.{ℕ, List, Option}
 use Rattle.mj_base.specs.Rising.{Rose}
 use Rattle.mj_base.specs.declared.sink.WriteAnswer.{WriteAnswer}
 use Rattle.mj_base.specs.declared.sink.WriteAnswer.TheVariants as writes

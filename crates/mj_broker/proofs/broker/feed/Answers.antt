@@ -1,4 +1,4 @@
-use Rattle.std.proofs.Common.{ℕ, ◌≡◌, List, ◌++◌, Bool, true, false, Option, Some, None, if◌then◌else◌, ◌∙◌, sym, subst}
+use Rattle.std.proofs.Common.{ℕ, ◌≡◌, List, Bool, true, false, Some, None, if◌then◌else◌}
 use Rattle.std.specs.List.{list_all}
 use Rattle.mj_base.specs.declared.limits.Limits.{Limits}
 use Rattle.mj_wire.specs.WireState.{State as WireValue}

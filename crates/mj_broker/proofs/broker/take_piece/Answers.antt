@@ -1,4 +1,4 @@
-use Rattle.std.proofs.Common.{◌<◌, length, get_or, None, arith}
+use Rattle.std.proofs.Common.{◌<◌, length, arith}
 use Rattle.mj_broker.proofs.LaneLemmas.{taken_stands, taken_wire}
 use Rattle.mj_broker.proofs.broker.take_piece.Goals as goal
 

@@ -1,4 +1,4 @@
-use Rattle.std.proofs.Common.{List, ℕ, Option, subst}
+use Rattle.std.proofs.Common.{subst}
 use Rattle.mj_prog.specs.declared.turn.Halt.{Halt}
 use Rattle.mj_prog.specs.Running.{IsHalted, HaltCause}
 use Rattle.mj_prog.proofs.Rows.{row-front}

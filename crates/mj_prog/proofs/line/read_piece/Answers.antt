@@ -1,4 +1,4 @@
-use Rattle.std.proofs.Common.{◌≡◌, ◌<◌, length, arith, rules}
+use Rattle.std.proofs.Common.{◌<◌, length, rules}
 use Rattle.mj_prog.proofs.Pieces.{pieces-are-hex, piece-sized}
 use Rattle.mj_prog.proofs.line.read_piece.Goals as goal
 

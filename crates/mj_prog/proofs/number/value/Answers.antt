@@ -1,4 +1,4 @@
-use Rattle.std.proofs.Common.{◌≡◌, ◌<◌, ◌≤◌, ◌^◌, ◌-◌, true, get_or, arith, rules}
+use Rattle.std.proofs.Common.{◌≡◌, ◌<◌, true, arith, rules}
 use Rattle.std.specs.List.{list_all}
 use Rattle.mj_prog.specs.Numbers.{is_digit}
 use Rattle.mj_prog.proofs.Digits.{below-pow, digit-at}

@@ -1,4 +1,4 @@
-use Rattle.std.proofs.Common.{◌≡◌, ◌<◌, ℕ, List, take, length, get_or, subst, arith}
+use Rattle.std.proofs.Common.{◌≡◌, ◌<◌, List, take, length, get_or, subst, arith}
 use Rattle.std.specs.Io.KnownBytes.{Appends}
 use Rattle.mj_base.specs.declared.event.Out.{Out}
 use Rattle.mj_prog.specs.Shown.{shown}

@@ -1,6 +1,6 @@
-use Rattle.std.proofs.Common.{◌≡◌, ◌+◌, ◌-◌, ℕ, Bool, true, cond, List, ◌++◌, length, take, drop, replicate, vec_len, is_ok, sym, ap, subst, ◌∙◌, arith, rules}
+use Rattle.std.proofs.Common.{◌≡◌, ◌+◌, ◌-◌, ℕ, Bool, true, cond, ◌++◌, length, take, replicate, vec_len, is_ok, sym, ap, subst, ◌∙◌, rules}
 use Rattle.mj_prog.specs.declared.read.Filled.{Filled}
-use Rattle.mj_prog.specs.ReadSoFar.{Fills, filled_of, filled_count}
+use Rattle.mj_prog.specs.ReadSoFar.{Fills, filled_count}
 use Rattle.mj_prog.proofs.Filling.{fill-of, held, grown-front}
 use Rattle.mj_prog.proofs.read.fill.Goals as goal
 

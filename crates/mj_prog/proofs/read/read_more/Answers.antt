@@ -1,4 +1,4 @@
-use Rattle.std.proofs.Common.{◌≡◌, ◌≤◌, ◌-◌, ℕ, List, sym, subst, arith, rules}
+use Rattle.std.proofs.Common.{◌≤◌, ◌-◌, ℕ, List, sym, subst, rules}
 use Rattle.mj_prog.specs.ReadSoFar.{IsSoFar}
 use Rattle.mj_prog.proofs.SoFar.{so_far-got, so_far-end, so_far-kept, failed-read}
 use Rattle.mj_prog.proofs.read.read_more.Goals as goal

@@ -1,4 +1,4 @@
-use Rattle.std.proofs.Common.{◌≡◌, ℕ, List, Option, sym, ◌∙◌, subst, arith, rules}
+use Rattle.std.proofs.Common.{ℕ, ◌∙◌, subst}
 use Rattle.mj_prog.specs.Running.{IsHalted}
 use Rattle.mj_prog.proofs.run.run_script.Goals as goal
 

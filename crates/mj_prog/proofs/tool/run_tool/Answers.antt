@@ -1,4 +1,4 @@
-use Rattle.std.proofs.Common.{◌≡◌, ℕ, List, [], Option, sym, ◌∙◌, subst, arith, rules}
+use Rattle.std.proofs.Common.{[], arith}
 use Rattle.std.proofs.KnownBytes.{Appends-nil, Keeps-refl}
 use Rattle.mj_prog.proofs.tool.run_tool.Goals as goal
 

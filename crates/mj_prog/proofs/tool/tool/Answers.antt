@@ -1,5 +1,4 @@
-use Rattle.std.proofs.Common.{◌≡◌, ℕ, List, [], Option, map, string_bytes, sym, ap, ◌∙◌, subst, arith, rules}
-use Rattle.mj_prog.specs.declared.status.Status.{Status}
+use Rattle.std.proofs.Common.{map, string_bytes, ap, ◌∙◌}
 use Rattle.mj_prog.specs.declared.status.Status.TheVariants as statuses
 use Rattle.mj_prog.specs.Words.{lanes_in}
 use Rattle.mj_prog.specs.Statuses.{code_of}

@@ -1,7 +1,4 @@
-use Rattle.std.proofs.Common.{◌≡◌, ◌++◌, ◌∷◌, [], ℕ, List, Option, sym, subst, arith, rules}
-use Rattle.mj_base.specs.StandardLimits.{standard_limits}
-use Rattle.mj_broker.specs.MachineState.{start}
-use Rattle.mj_broker.specs.MachineRun.{run_state}
+use Rattle.std.proofs.Common.{Option, sym, subst}
 use Rattle.mj_prog.specs.declared.turn.Halt.{Halt}
 use Rattle.mj_prog.specs.Running.{IsTurn}
 use Rattle.mj_prog.proofs.Runs.{turn-act, halted-over, halted-line, halted-read, halted-memory}
