@@ -1,5 +1,5 @@
 -- What a service may be called.
-use Rattle.std.specs.Prelude.{ℕ, Bool, ◌&&◌, ◌||◌, nat_lt, nat_le, nat_eq, List, length, Option, Some, None, if◌then◌else◌, codes}
+use Rattle.std.specs.Prelude.{ℕ, ◌≡◌, ◌≤◌, Bool, ◌&&◌, ◌||◌, IsTrue, nat_lt, nat_le, nat_eq, List, length, take, Option, Some, None, if◌then◌else◌, codes}
 use Rattle.std.specs.List.{list_all, starts_with}
 
 -- a printing character of ASCII, or a space
@@ -17,3 +17,9 @@ name_of octets = if is_service_name octets then Some octets else None
 -- names that the broker answers itself: `mmi.` (ZeroMQ RFC 8), and with a store `titanic.` (ZeroMQ RFC 9)
 abbrev pub is_reserved : Bool → List ℕ → Bool
 is_reserved stored name = starts_with nat_eq name (codes "mmi.") || (stored && starts_with nat_eq name (codes "titanic."))
+
+-- the first bytes of a field of 255 are a service name
+pub record IsNameIn (len : ℕ) (bytes : List ℕ) : Type 0 where
+  pub short : len ≤ 255
+  pub room : length bytes ≡ 255
+  pub named : IsTrue (is_service_name (take len bytes))

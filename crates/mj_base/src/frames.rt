@@ -1,4 +1,4 @@
-ghost use Rattle.std.specs.Prelude.{◌≡◌, ◌==◌, [], ◌∷◌, ◌++◌, length, sum_by, slice_get, option_copied, OnOk, OnErr, IfOk};
+ghost use Rattle.std.specs.Prelude.{◌≡◌, ◌==◌, ◌+◌, ◌<◌, [], ◌∷◌, ◌++◌, length, drop, sum_by, slice_get, option_copied, OnOk, OnErr, IfOk, MatchOption};
 
 use super::{NoMemory, Octets};
 use std::alloc::Global;
@@ -59,13 +59,42 @@ impl Frames {
         self.frames.is_empty()
     }
 
+    /// The frame at this place.
     pub fn get(&self, i: usize) -> Option<&[u8]>
+        ensures value { option_copied result ≡ slice_get self.now i }
+        ensures rest { MatchOption result (drop i self.now ≡ []) (λ frame. (i < length self.now) × (drop i self.now ≡ frame.now ∷ drop (i + 1) self.now)) }
+    {
+        self.frame(i)
+    }
+
+    fn frame(&self, i: usize) -> Option<&[u8]>
         ensures { option_copied result ≡ slice_get self.now i }
     {
         match self.frames.get(i) {
             Some(frame) => Some(frame.as_slice()),
             None => None,
         }
+    }
+
+    /// Appends copies of the other's frames from this place on. Without memory a front of them may be appended.
+    pub fn append_from(&mut self, other: &Frames, from: usize) -> Result<(), NoMemory>
+        ensures { OnOk result (self.new ≡ self.old ++ drop from other.now) }
+    {
+        for i in from..other.len() {
+            if let Some(frame) = other.get(i) {
+                self.push(frame)?;
+            }
+        }
+        Ok(())
+    }
+
+    /// The frames from this place on, as a list of their own.
+    pub fn copy_from(&self, from: usize) -> Result<Frames, NoMemory>
+        ensures { IfOk result (λ frames. frames ≡ drop from self.now) }
+    {
+        let mut copy = Frames::new(*self.frames.allocator());
+        copy.append_from(self, from)?;
+        Ok(copy)
     }
 
     /// The number of bytes of all frames together.
@@ -79,10 +108,6 @@ impl Frames {
     pub fn copy(&self) -> Result<Frames, NoMemory>
         ensures { IfOk result (λ frames. frames ≡ self.now) }
     {
-        let mut copy = Frames::new(*self.frames.allocator());
-        for frame in &self.frames {
-            copy.push(frame.as_slice())?;
-        }
-        Ok(copy)
+        self.copy_from(0)
     }
 }

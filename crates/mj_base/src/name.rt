@@ -13,13 +13,14 @@ pub struct Name {
 }
 
 impl Model for Name {
-    ghost use Rattle.std.specs.Prelude.{◌≡◌, ◌≤◌, List, ℕ, take, length};
+    ghost use Rattle.std.specs.Prelude.{List, ℕ, take};
+    ghost use Rattle.mj_base.specs.ServiceName.{IsNameIn};
 
     ghost Value = { List ℕ };
 
     ghost view = { λ n. take n.len n.bytes };
 
-    ghost invariant = { λ n. (n.len ≤ 255) × (length n.bytes ≡ 255) };
+    ghost invariant = { λ n. IsNameIn n.len n.bytes };
 }
 
 impl Name {
@@ -41,7 +42,8 @@ impl Name {
     }
 
     pub fn as_slice(&self) -> &[u8]
-        ensures { result.now ≡ self.now }
+        ensures value { result.now ≡ self.now }
+        ensures named { IsTrue (ServiceName.is_service_name self.now) }
     {
         &self.bytes[..self.len as usize]
     }

@@ -23,6 +23,9 @@ fn frames_keep_their_bytes_and_count_them(rt: HostRuntime) -> Result<(), Fail> {
     assert_eq!(rt; copy.octets(), 6);
     assert!(rt; copy.get(1) == Some(b"MDPC01".as_slice()));
     assert!(rt; copy.get(2).is_none());
+    let tail = copy.copy_from(1)?;
+    assert_eq!(rt; tail.len(), 1);
+    assert!(rt; tail.get(0) == Some(b"MDPC01".as_slice()));
     Ok(())
 }
 

@@ -8,12 +8,12 @@ pub loop-i-preserved : goal.loop-i-preserved
 loop-i-preserved c =
     elim c.match-get.branch [
       | in-Some+in_ok-append_frame w ↦
-          let got : slice_get c.args.message.now c.loop-i.i ≡ Some w.in-Some.frame.now = sym c.get.ensures ∙ ap option_copied w.in-Some.is in
+          let got : slice_get c.args.message.now c.loop-i.i ≡ Some w.in-Some.frame.now = sym c.get.ensures.value ∙ ap option_copied w.in-Some.is in
           let written = w.out-is ∙ w.in_ok-append_frame.ensures.ok in
           (grows_more _ _ _ _ c.loop-i.invariant.0 written, message_more _ _ _ _ _ _ _ got c.len-last.ensures c.loop-i.invariant.1 written)
       | in_default w ↦
           let inside : c.loop-i.i < length c.args.message.now = omega (arith, c.len-i-end.ensures) in
-          let none : slice_get c.args.message.now c.loop-i.i ≡ None = sym c.get.ensures ∙ ap option_copied w.in_default.is in
+          let none : slice_get c.args.message.now c.loop-i.i ≡ None = sym c.get.ensures.value ∙ ap option_copied w.in_default.is in
           let some = slice_get-get_or c.args.message.now c.loop-i.i [] inside in
           cc
     ]
