@@ -1,0 +1,4 @@
+pub mod ClientGrammar
+pub mod ClientReading
+pub mod ClientWriting
+pub mod Laws

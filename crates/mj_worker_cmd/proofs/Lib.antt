@@ -1,0 +1,4 @@
+pub mod OpeningLemmas
+pub mod CodeLemmas
+pub mod WorkerLemmas
+pub mod OrderLemmas

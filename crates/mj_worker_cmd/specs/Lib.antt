@@ -1,0 +1,6 @@
+pub mod WorkerGrammar
+pub mod Opening
+pub mod Codes
+pub mod WorkerReading
+pub mod WorkerWriting
+pub mod Laws
