@@ -1,0 +1,4 @@
+pub mod HallState
+pub mod Settling
+pub mod HallSteps
+pub mod PairLaw
