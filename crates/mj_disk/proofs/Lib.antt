@@ -1,0 +1,4 @@
+pub mod Images
+pub mod Marking
+pub mod Moments
+pub mod Recording

@@ -1,0 +1,6 @@
+pub mod Content
+pub mod DiskModel
+pub mod Entries
+pub mod Images
+pub mod Laws
+pub mod Recorded

@@ -1,0 +1,109 @@
+use super::{Disk, DiskFailed, FileDisk, MemoryDisk, write_synced};
+use mj_base::Octets;
+use std::alloc::Global;
+use std::fs;
+use std::test::Fail;
+
+fn disk_of(
+    alloc: Global,
+    bytes: &[u8],
+    room: u64,
+    failing: Vec<u64>,
+    stop: Option<u64>,
+) -> Result<MemoryDisk, Fail> {
+    let mut octets = Octets::new(alloc);
+    octets.push_all(bytes)?;
+    if octets.len() as u64 > room {
+        return Err("no room".into());
+    }
+    Ok(MemoryDisk::new(alloc, octets, room, failing, stop)?)
+}
+
+fn write(disk: &mut MemoryDisk, at: u64, octets: &[u8]) -> Result<(), DiskFailed> {
+    if at > disk.as_slice().len() as u64 {
+        return Ok(());
+    }
+    disk.write(at, octets)
+}
+
+fn read_three(disk: &mut MemoryDisk, at: usize) -> Result<[u8; 3], DiskFailed> {
+    let mut into = [0; 3];
+    let len = disk.as_slice().len();
+    if len >= 3 && at <= len - 3 {
+        disk.read(at as u64, &mut into)?;
+    }
+    Ok(into)
+}
+
+fn images_are(alloc: Global, disk: &MemoryDisk, images: [&[u8]; 3]) -> Result<bool, Fail> {
+    for (k, wanted) in [(0, images[0]), (1, images[1]), (2, images[2])] {
+        let image = disk.image(alloc, k)?;
+        if image.as_slice() != wanted {
+            return Ok(false);
+        }
+    }
+    Ok(true)
+}
+
+#[test]
+fn a_crash_leaves_old_bytes_new_bytes_or_others(rt: HostRuntime) -> Result<(), Fail> {
+    let alloc = rt.alloc();
+    let mut disk = disk_of(alloc, b"abcd", 8, Vec::new(alloc), None)?;
+    assert_eq!(rt; disk.images(), 3);
+    assert!(rt; images_are(alloc, &disk, [b"abcd", b"abcd", b"abcd"])?);
+    assert!(rt; write(&mut disk, 2, b"xyz").is_ok());
+    assert!(rt; images_are(alloc, &disk, [b"abxyz", b"abcd", b"ab\xff\xff\xff"])?);
+    assert!(rt; write(&mut disk, 0, b"q").is_ok());
+    assert!(rt; images_are(alloc, &disk, [b"qbxyz", b"abcd", b"\xffb\xff\xff\xff"])?);
+    assert!(rt; disk.sync().is_ok());
+    assert!(rt; images_are(alloc, &disk, [b"qbxyz", b"qbxyz", b"qbxyz"])?);
+    assert_eq!(rt; disk.size(), Ok(5));
+    assert_eq!(rt; read_three(&mut disk, 1), Ok(*b"bxy"));
+    assert_eq!(rt; disk.moment(), 5);
+    Ok(())
+}
+
+#[test]
+fn a_memory_disk_fails_where_it_is_told_to(rt: HostRuntime) -> Result<(), Fail> {
+    let alloc = rt.alloc();
+    let failing = vec![in alloc; 1, 2]?;
+    let mut disk = disk_of(alloc, b"ab", 4, failing, Some(6))?;
+    assert_eq!(rt; disk.size(), Ok(2));
+    assert_eq!(rt; write(&mut disk, 1, b"xy"), Err(DiskFailed));
+    assert_eq!(rt; disk.sync(), Err(DiskFailed));
+    assert!(rt; images_are(alloc, &disk, [b"ab", b"ab", b"a\xff"])?);
+    assert!(rt; write(&mut disk, 2, b"cd").is_ok() && disk.sync().is_ok());
+    assert_eq!(rt; disk.size(), Ok(4));
+    assert_eq!(rt; disk.size(), Err(DiskFailed));
+    Ok(())
+}
+
+#[test]
+fn a_write_past_the_room_fails(rt: HostRuntime) -> Result<(), Fail> {
+    let alloc = rt.alloc();
+    let mut disk = disk_of(alloc, b"ab", 4, Vec::new(alloc), None)?;
+    assert_eq!(rt; write(&mut disk, 2, b"xyz"), Err(DiskFailed));
+    assert_eq!(rt; write(&mut disk, 2, b"xy"), Ok(()));
+    assert_eq!(rt; disk.sync(), Ok(()));
+    assert!(rt; images_are(alloc, &disk, [b"abxy", b"abxy", b"abxy"])?);
+    Ok(())
+}
+
+#[test]
+fn a_file_disk_keeps_its_bytes(rt: HostRuntime) -> Result<(), Fail> {
+    let alloc = rt.alloc();
+    let path = String::from_str(alloc, "file_disk_test")?;
+    let mut disk = FileDisk::new(&rt, path);
+    assert_eq!(rt; disk.size(), Ok(0));
+    assert_eq!(rt; write_synced(&mut disk, 0, b"abcd"), Ok(()));
+    assert_eq!(rt; disk.write(2, b"xyz"), Ok(()));
+    assert_eq!(rt; disk.sync(), Ok(()));
+    let mut again = FileDisk::new(&rt, String::from_str(alloc, "file_disk_test")?);
+    let mut into = [0; 4];
+    assert_eq!(rt; again.read(1, &mut into), Ok(()));
+    assert_eq!(rt; into, *b"bxyz");
+    assert_eq!(rt; again.read(2, &mut into), Err(DiskFailed));
+    assert_eq!(rt; again.moment(), 0);
+    fs::remove_file(&rt, "file_disk_test")?;
+    Ok(())
+}
