@@ -1,0 +1,5 @@
+pub mod Appending
+pub mod FileText
+pub mod Laws
+pub mod Making
+pub mod Opening

@@ -1,0 +1,126 @@
+ghost use Rattle.std.specs.Prelude.{◌≡◌, true, false, None, ◌+◌, ◌^◌, ◌<◌, ◌≤◌, ◌↔◌, ℕ, List, [], ◌∷◌, ◌++◌, length, take, drop, OnOk, OnErr, IfOk, IsErrOf};
+ghost use Rattle.mj_base.specs.Rising.{Rose};
+ghost use Rattle.mj_disk.specs.Content.{settled, spliced};
+ghost use Rattle.mj_disk.specs.DiskModel.{Now, Becomes};
+ghost use Rattle.mj_journal.specs.FileText.{IsPayload, length_octets};
+ghost use Rattle.mj_journal.specs.Appending.{recorded, EndsAt, Appends, AppendsText, CrashesOldOrNew};
+
+use super::AppendFault;
+use mj_base::{NoMemory, Octets};
+use mj_disk::{Disk, DiskFailed, write_synced};
+use std::alloc::Global;
+
+/// An opened file, to whose end payloads are appended.
+#[derive(Debug, Drop)]
+pub struct Journal {
+    pub(crate) end: u64,
+    pub(crate) spent: bool,
+}
+
+impl Journal {
+    /// The offset of the closed gate.
+    pub fn end(&self) -> u64
+        ensures { result ≡ self.now.end }
+    {
+        self.end
+    }
+
+    /// Appends a payload of 1 to 2,097,152 bytes: its record behind the closed gate and a sync, then the gate is
+    /// opened, and a sync.
+    pub fn append<D: Disk>(
+        &mut self,
+        alloc: Global,
+        disk: &mut D,
+        payload: &[u8],
+    ) -> Result<(), AppendFault>
+        requires file { self.old.spent ≡ false → Now (D.told disk.old) (EndsAt self.old.end) }
+        requires payload { IsPayload payload.now }
+        requires room { self.old.end + (length payload.now + 5) < 2 ^ 63 }
+
+        ensures appended { OnOk result (Appends payload.now self.old.end (D.told disk.old) (D.told disk.new)) }
+        ensures text { OnOk result (AppendsText payload.now self.old.end (D.told disk.old) (D.told disk.new)) }
+        ensures end { OnOk result (self.new.end ≡ self.old.end + (length payload.now + 5)) }
+        ensures settled { OnOk result (D.settled_now disk.new) }
+        ensures unspent { OnOk result (self.new.spent ≡ false) }
+        ensures unfailed { OnOk result (D.failed disk.new ≡ false) }
+
+        // A crash at any moment of the call leaves the payloads from before it, with the new one or without.
+        ensures crash { CrashesOldOrNew payload.now self.old.end (D.time disk.old, D.time disk.new) (D.told disk.old) (D.told disk.new) }
+
+        ensures spent { IsErrOf result AppendFault.Spent ↔ (self.old.spent ≡ true) }
+        ensures spent_same { IsErrOf result AppendFault.Spent → (disk.new ≡ disk.old) × (self.new ≡ self.old) }
+        ensures no_memory { IsErrOf result AppendFault.NoMemory → (disk.new ≡ disk.old) × (self.new ≡ self.old) }
+        ensures cause { IsErrOf result AppendFault.DiskFault → Rose (D.faults disk.old) (D.faults disk.new) }
+        ensures failed { IsErrOf result AppendFault.DiskFault → (D.failed disk.new ≡ true) × (self.new.spent ≡ true) × (self.new.end ≡ self.old.end) }
+
+        ensures silent { D.told disk.old ≡ None → D.told disk.new ≡ None }
+        ensures later { D.time disk.old ≤ D.time disk.new }
+        ensures count { D.faults disk.old ≤ D.faults disk.new }
+    {
+        if self.spent {
+            return Err(AppendFault::Spent);
+        }
+        let Ok(octets) = record(alloc, payload) else {
+            return Err(AppendFault::NoMemory);
+        };
+        let Ok(()) = put(disk, self.end, octets.as_slice()) else {
+            self.spent = true;
+            return Err(AppendFault::DiskFault);
+        };
+        self.end += payload.len() as u64 + 5;
+        Ok(())
+    }
+
+    /// Reads bytes of the file, up to the closed gate.
+    pub fn read<D: Disk>(&self, disk: &mut D, at: u64, into: &mut [u8]) -> Result<(), DiskFailed>
+        requires inside { at + length into.old ≤ self.now.end }
+        requires file { Now (D.told disk.old) (λ held. self.now.end ≤ length held.octets) }
+        ensures octets { OnOk result (Now (D.told disk.old) (λ held. into.new ≡ take (length into.old) (drop at held.octets))) }
+        ensures same { D.told disk.new ≡ D.told disk.old }
+        ensures settled { OnOk result (D.settled_now disk.old → D.settled_now disk.new) }
+        ensures later { D.time disk.old ≤ D.time disk.new }
+        ensures failed { OnErr result (D.failed disk.new ≡ true) }
+        ensures unfailed { OnOk result (D.failed disk.new ≡ D.failed disk.old) }
+        ensures count { D.faults disk.old ≤ D.faults disk.new }
+        ensures cause { OnErr result (Rose (D.faults disk.old) (D.faults disk.new)) }
+    {
+        disk.read(at, into)
+    }
+}
+
+/// A payload's record, and the closed gate behind it.
+fn record(alloc: Global, payload: &[u8]) -> Result<Octets, NoMemory>
+    requires { IsPayload payload.now }
+    ensures { IfOk result (λ octets. octets ≡ recorded payload.now) }
+{
+    let mut octets = Octets::new(alloc);
+    push_length(&mut octets, payload.len() as u32)?;
+    octets.push_all(payload)?;
+    octets.push_all(&[0])?;
+    Ok(octets)
+}
+
+#[tactic(auto, unfolding(crate::specs::FileText::length_octets))]
+fn push_length(octets: &mut Octets, len: u32) -> Result<(), NoMemory>
+    ensures { OnOk result (octets.new ≡ octets.old ++ length_octets len) }
+{
+    octets.push_all(&len.to_be_bytes())
+}
+
+/// Writes a record and a closed gate behind the closed gate at `end`, and then opens that.
+pub(crate) fn put<D: Disk>(disk: &mut D, end: u64, octets: &[u8]) -> Result<(), DiskFailed>
+    requires file { Now (D.told disk.old) (EndsAt end) }
+    requires room { end < 2 ^ 63 }
+    ensures written { OnOk result (Becomes (λ held. settled (spliced end (1 ∷ []) (spliced (end + 1) octets.now held.octets))) (D.told disk.old) (D.told disk.new)) }
+    ensures settled { OnOk result (D.settled_now disk.new) }
+    ensures crash { (payload : List ℕ) → IsPayload payload → octets.now ≡ recorded payload → CrashesOldOrNew payload end (D.time disk.old, D.time disk.new) (D.told disk.old) (D.told disk.new) }
+    ensures silent { D.told disk.old ≡ None → D.told disk.new ≡ None }
+    ensures later { D.time disk.old ≤ D.time disk.new }
+    ensures failed { OnErr result (D.failed disk.new ≡ true) }
+    ensures unfailed { OnOk result (D.failed disk.new ≡ false) }
+    ensures count { D.faults disk.old ≤ D.faults disk.new }
+    ensures cause { OnErr result (Rose (D.faults disk.old) (D.faults disk.new)) }
+{
+    write_synced(disk, end + 1, octets)?;
+    write_synced(disk, end, &[1])
+}

@@ -1,0 +1,19 @@
+//! A file of payloads that grows at its end, a gate in front of each: a crash at any moment leaves the payloads
+//! from before an append, or these and the new one.
+#![tactic(auto)]
+
+mod fault;
+mod header;
+mod journal;
+mod laws;
+mod making;
+mod opening;
+
+pub use fault::{AppendFault, OpenFault};
+pub use journal::Journal;
+pub use laws::{files_stand_once, no_store_in_the_making, texts_stand};
+pub use making::{MakeFault, Making};
+pub use opening::Opening;
+
+#[cfg(test)]
+mod tests;

@@ -1,0 +1,349 @@
+ghost use Rattle.std.specs.Prelude.{◌≡◌, None};
+
+use super::{AppendFault, Journal, MakeFault, Making, OpenFault, Opening};
+use mj_base::Octets;
+use mj_disk::{Disk, DiskFailed, FileDisk, MemoryDisk};
+use std::alloc::Global;
+use std::fs;
+use std::test::Fail;
+
+/// A memory disk that doesn't tell what it holds, as a file doesn't.
+#[derive(Drop)]
+struct Untold {
+    disk: MemoryDisk,
+}
+
+impl Disk for Untold {
+    ghost use Rattle.std.specs.Prelude.{None};
+    ghost use Rattle.mj_disk.specs.Laws.{none_told};
+
+    ghost told = { λ _. None };
+
+    ghost time = { λ d. ⟦<MemoryDisk as Disk>⟧.time d.disk };
+
+    ghost settled_now = { λ d. ⟦<MemoryDisk as Disk>⟧.settled_now d.disk };
+
+    ghost failed = { λ d. ⟦<MemoryDisk as Disk>⟧.failed d.disk };
+
+    ghost faults = { λ d. ⟦<MemoryDisk as Disk>⟧.faults d.disk };
+
+    ghost settled_told = { λ d history is settled. none_told history is };
+
+    ghost in_time = { λ d history is. none_told history is };
+
+    ghost reads_image = { λ d history is. none_told history is };
+
+    fn size(&mut self) -> Result<u64, DiskFailed> {
+        self.disk.size()
+    }
+
+    fn read(&mut self, at: u64, into: &mut [u8]) -> Result<(), DiskFailed> {
+        let len = self.disk.as_slice().len();
+        if at as usize > len || into.len() > len - at as usize {
+            self.disk.size()?;
+            return Ok(());
+        }
+        self.disk.read(at, into)
+    }
+
+    fn write(&mut self, at: u64, octets: &[u8]) -> Result<(), DiskFailed> {
+        let len = self.disk.as_slice().len() as u64;
+        self.disk.write(at.min(len), octets)
+    }
+
+    fn sync(&mut self) -> Result<(), DiskFailed> {
+        self.disk.sync()
+    }
+
+    fn moment(&self) -> u64 {
+        self.disk.moment()
+    }
+}
+
+const HEADER_1: &[u8; 17] = b"MJTSTOR1\0\0\0\0\0\0\0\0\0";
+
+const HEADER_2: &[u8; 17] = b"MJTSTOR2\0\0\0\0\0\0\0\x01\0";
+
+const ACCEPT: &[u8; 30] =
+    b"\x41\xe5\x6a\x5d\x40\x28\xbd\x86\x53\x80\0\0\0\0\0\0\x01\x04echo\0\x01\0\0\0\x02hi";
+
+const STORE: &[u8; 18] = b"\x53\0\0\0\0\0\0\0\x01\0\x01\0\0\0\x03hi!";
+
+const CLOSE: &[u8; 9] = b"\x43\0\0\0\0\0\0\0\x01";
+
+/// Gates and records of the three payloads, from offset 16 on.
+const RECORDS: &[u8; 73] =
+    b"\x01\0\0\0\x1e\x41\xe5\x6a\x5d\x40\x28\xbd\x86\x53\x80\0\0\0\0\0\0\x01\x04echo\0\x01\0\0\0\x02hi\x01\0\0\0\x12\x53\0\0\0\0\0\0\0\x01\0\x01\0\0\0\x03hi!\x01\0\0\0\x09\x43\0\0\0\0\0\0\0\x01\0";
+
+fn disk_of(
+    alloc: Global,
+    bytes: &[u8],
+    failing: Vec<u64>,
+    stop: Option<u64>,
+) -> Result<Untold, Fail> {
+    let mut octets = Octets::new(alloc);
+    octets.push_all(bytes)?;
+    if octets.len() > 200 {
+        return Err("no room".into());
+    }
+    let disk = MemoryDisk::new(alloc, octets, 200, failing, stop)?;
+    Ok(Untold { disk })
+}
+
+/// Opens a file, and gives its journal and the number of its payloads.
+fn open<D: Disk>(alloc: Global, disk: &mut D, base: u64) -> Result<(Journal, u32), OpenFault>
+    requires told { D.told disk.old ≡ None }
+    requires base { base ≡ 1 }
+{
+    let mut opening = Opening::begin(disk, base)?;
+    let mut payload = Octets::new(alloc);
+    for count in 0..1000 {
+        if !opening.next(alloc, disk, &mut payload)? {
+            return Ok((opening.finish(), count));
+        }
+    }
+    Err(OpenFault::NoMemory)
+}
+
+fn append<D: Disk>(
+    alloc: Global,
+    journal: &mut Journal,
+    disk: &mut D,
+    payload: &[u8],
+) -> Result<(), AppendFault>
+    requires { D.told disk.old ≡ None }
+{
+    if payload.is_empty() || payload.len() > 2_097_152 || journal.end() > 1 << 40 {
+        return Err(AppendFault::Spent);
+    }
+    journal.append(alloc, disk, payload)
+}
+
+fn opens_as(alloc: Global, disk: &Untold, few: u32, many: u32) -> Result<bool, Fail> {
+    for k in 0..3 {
+        let image = disk.disk.image(alloc, k)?;
+        let mut again = disk_of(alloc, image.as_slice(), Vec::new(alloc), None)?;
+        let Ok((_, count)) = open(alloc, &mut again, 1) else {
+            return Ok(false);
+        };
+        if count != few && count != many {
+            return Ok(false);
+        }
+    }
+    Ok(true)
+}
+
+#[test]
+fn three_appends_give_the_file_byte_for_byte(rt: HostRuntime) -> Result<(), Fail> {
+    let alloc = rt.alloc();
+    for (start, header) in [(HEADER_1.as_slice(), HEADER_1), (b"".as_slice(), HEADER_2)] {
+        let mut disk = disk_of(alloc, start, Vec::new(alloc), None)?;
+        let (mut journal, count) = open(alloc, &mut disk, 1).or(Err("opening"))?;
+        assert_eq!(rt; count, 0);
+        assert!(rt; disk.disk.as_slice() == header.as_slice());
+        assert_eq!(rt; append(alloc, &mut journal, &mut disk, ACCEPT), Ok(()));
+        assert_eq!(rt; journal.end(), 51);
+        assert_eq!(rt; append(alloc, &mut journal, &mut disk, STORE), Ok(()));
+        assert_eq!(rt; journal.end(), 74);
+        assert_eq!(rt; append(alloc, &mut journal, &mut disk, CLOSE), Ok(()));
+        assert_eq!(rt; journal.end(), 88);
+        let file = disk.disk.as_slice();
+        assert_eq!(rt; file.len(), 89);
+        assert!(rt; file[..16] == header[..16]);
+        assert!(rt; file[16..] == RECORDS[..]);
+        let mut again = disk_of(alloc, disk.disk.as_slice(), Vec::new(alloc), None)?;
+        let (journal, count) = open(alloc, &mut again, 1).or(Err("opening"))?;
+        assert_eq!(rt; count, 3);
+        assert_eq!(rt; journal.end(), 88);
+    }
+    Ok(())
+}
+
+#[test]
+fn a_stop_in_an_append_leaves_the_old_file_or_the_new(rt: HostRuntime) -> Result<(), Fail> {
+    let alloc = rt.alloc();
+    // Five calls of the disk come before the append.
+    for calls in 0..5 {
+        let mut disk = disk_of(alloc, HEADER_1, Vec::new(alloc), Some(4 + calls))?;
+        let (mut journal, _) = open(alloc, &mut disk, 1).or(Err("opening"))?;
+        let answer = append(alloc, &mut journal, &mut disk, ACCEPT);
+        if calls == 4 {
+            assert_eq!(rt; answer, Ok(()));
+            assert!(rt; opens_as(alloc, &disk, 1, 1)?);
+        } else {
+            assert_eq!(rt; answer, Err(AppendFault::DiskFault));
+            assert!(rt; opens_as(alloc, &disk, 0, 1)?);
+            assert_eq!(rt;
+                append(alloc, &mut journal, &mut disk, ACCEPT),
+                Err(AppendFault::Spent)
+            );
+        }
+    }
+    Ok(())
+}
+
+#[test]
+fn each_failing_call_of_an_append_is_a_fault(rt: HostRuntime) -> Result<(), Fail> {
+    let alloc = rt.alloc();
+    for call in 4..8 {
+        let mut failing = Vec::new(alloc);
+        failing.push(call)?;
+        let mut disk = disk_of(alloc, HEADER_1, failing, None)?;
+        let (mut journal, _) = open(alloc, &mut disk, 1).or(Err("opening"))?;
+        assert_eq!(rt;
+            append(alloc, &mut journal, &mut disk, ACCEPT),
+            Err(AppendFault::DiskFault)
+        );
+        assert!(rt; opens_as(alloc, &disk, 0, 1)?);
+    }
+    Ok(())
+}
+
+#[test]
+fn other_files_are_refused_by_name(rt: HostRuntime) -> Result<(), Fail> {
+    let alloc = rt.alloc();
+    for (file, fault) in [
+        (
+            b"MJTSTOR3\0\0\0\0\0\0\0\0\0\0".as_slice(),
+            OpenFault::Version(3),
+        ),
+        (
+            b"MJTSTOR0\0\0\0\0\0\0\0\0\0\0".as_slice(),
+            OpenFault::Version(0),
+        ),
+        (
+            b"MJTSTORX\0\0\0\0\0\0\0\0\0\0".as_slice(),
+            OpenFault::NotAStore,
+        ),
+        (
+            b"MJTSTOR2\0\0\0\0\0\0\0\0\0\0".as_slice(),
+            OpenFault::NotAStore,
+        ),
+        (
+            b"MJTSTOR1\0\0\0\0\0\0\0\x01\0\0".as_slice(),
+            OpenFault::NotAStore,
+        ),
+        (
+            b"NJTSTOR1\0\0\0\0\0\0\0\0\0\0".as_slice(),
+            OpenFault::NotAStore,
+        ),
+        (
+            b"MJTSTOR1\0\0\0\0\0\0\0\0\x01\0\0\0\x01A".as_slice(),
+            OpenFault::Damaged(16),
+        ),
+        (
+            b"MJTSTOR1\0\0\0\0\0\0\0\0\x01\0\0\0\0\0\0\0\0\0".as_slice(),
+            OpenFault::Damaged(16),
+        ),
+    ] {
+        let mut disk = disk_of(alloc, file, Vec::new(alloc), None)?;
+        let answer = open(alloc, &mut disk, 1);
+        match answer {
+            Ok(_) => return Err("it was opened".into()),
+            Err(met) => assert_eq!(rt; met, fault, "{file:?}"),
+        }
+        assert!(rt; disk.disk.as_slice() == file);
+    }
+    Ok(())
+}
+
+#[test]
+fn a_file_cut_short_is_damaged_or_has_fewer_payloads(rt: HostRuntime) -> Result<(), Fail> {
+    let alloc = rt.alloc();
+    let mut whole = Octets::new(alloc);
+    whole.push_all(&HEADER_1[..16])?;
+    whole.push_all(RECORDS)?;
+    for len in 0..90 {
+        let file = whole.as_slice();
+        if len > file.len() {
+            break;
+        }
+        let mut disk = disk_of(alloc, &file[..len], Vec::new(alloc), None)?;
+        let answer = match open(alloc, &mut disk, 1) {
+            Ok((_, count)) => Ok(count),
+            Err(fault) => Err(fault),
+        };
+        let wanted = match len {
+            0..18 => Ok(0),
+            18..52 => Err(OpenFault::Damaged(16)),
+            52..75 => Err(OpenFault::Damaged(51)),
+            75..89 => Err(OpenFault::Damaged(74)),
+            _ => Ok(3),
+        };
+        assert_eq!(rt; answer, wanted, "{len}");
+    }
+    Ok(())
+}
+
+#[test]
+fn any_open_gate_will_do(rt: HostRuntime) -> Result<(), Fail> {
+    let alloc = rt.alloc();
+    let mut file = [0; 89];
+    file[..16].copy_from_slice(&HEADER_1[..16]);
+    file[16..].copy_from_slice(RECORDS);
+    file[51] = 7;
+    let mut disk = disk_of(alloc, &file, Vec::new(alloc), None)?;
+    let (journal, count) = open(alloc, &mut disk, 1).or(Err("opening"))?;
+    assert_eq!(rt; count, 3);
+    let mut into = [0; 9];
+    if journal.end() == 88 {
+        assert_eq!(rt; journal.read(&mut disk, 79, &mut into), Ok(()));
+    }
+    assert_eq!(rt; into, *CLOSE);
+    Ok(())
+}
+
+#[test]
+fn a_payload_is_handed_out_with_its_gate(rt: HostRuntime) -> Result<(), Fail> {
+    let alloc = rt.alloc();
+    let mut file = [0; 89];
+    file[..16].copy_from_slice(&HEADER_1[..16]);
+    file[16..].copy_from_slice(RECORDS);
+    let mut disk = disk_of(alloc, &file, Vec::new(alloc), None)?;
+    let mut opening = Opening::begin(&mut disk, 7).or(Err("opening"))?;
+    assert_eq!(rt; opening.base(), 1);
+    let mut payload = Octets::new(alloc);
+    assert_eq!(rt; opening.next(alloc, &mut disk, &mut payload), Ok(true));
+    assert!(rt; payload.as_slice() == ACCEPT.as_slice());
+    assert_eq!(rt; opening.gate(), 16);
+    assert_eq!(rt; opening.next(alloc, &mut disk, &mut payload), Ok(true));
+    assert!(rt; payload.as_slice() == STORE.as_slice());
+    assert_eq!(rt; opening.gate(), 51);
+    Ok(())
+}
+
+#[test]
+fn a_file_in_the_making_is_no_store(rt: HostRuntime) -> Result<(), Fail> {
+    let alloc = rt.alloc();
+    let mut disk = disk_of(alloc, b"", Vec::new(alloc), None)?;
+    let mut making = Making::begin(&mut disk, 2).or(Err("making"))?;
+    assert!(rt; Making::begin(&mut disk, 2).is_err_and(|fault| fault == MakeFault::NotEmpty));
+    assert_eq!(rt; making.append(alloc, &mut disk, CLOSE), Ok(()));
+    let mut early = disk_of(alloc, disk.disk.as_slice(), Vec::new(alloc), None)?;
+    assert!(rt; open(alloc, &mut early, 1).is_err_and(|fault| fault == OpenFault::NotAStore));
+    let journal = making.finish(&mut disk)?;
+    assert_eq!(rt; journal.end(), 30);
+    let mut opening = Opening::begin(&mut disk, 1).or(Err("opening"))?;
+    assert_eq!(rt; opening.base(), 2);
+    let mut payload = Octets::new(alloc);
+    assert_eq!(rt; opening.next(alloc, &mut disk, &mut payload), Ok(true));
+    assert!(rt; payload.as_slice() == CLOSE.as_slice());
+    Ok(())
+}
+
+#[test]
+fn a_real_file_is_opened_again(rt: HostRuntime) -> Result<(), Fail> {
+    let alloc = rt.alloc();
+    let path = "journal_test";
+    let mut disk = FileDisk::new(&rt, String::from_str(alloc, path)?);
+    let (mut journal, count) = open(alloc, &mut disk, 1).or(Err("opening"))?;
+    assert_eq!(rt; count, 0);
+    assert_eq!(rt; append(alloc, &mut journal, &mut disk, STORE), Ok(()));
+    assert_eq!(rt; append(alloc, &mut journal, &mut disk, CLOSE), Ok(()));
+    let mut again = FileDisk::new(&rt, String::from_str(alloc, path)?);
+    let (journal, count) = open(alloc, &mut again, 1).or(Err("opening"))?;
+    assert_eq!(rt; count, 2);
+    assert_eq!(rt; journal.end(), 53);
+    fs::remove_file(&rt, path)?;
+    Ok(())
+}
