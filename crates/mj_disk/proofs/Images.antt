@@ -1,7 +1,7 @@
 -- What a crash leaves of a list of bytes that was all synced, after one write.
-use Rattle.std.proofs.Common.{◌≡◌, ℕ, ◌+◌, ◌-◌, ◌<◌, ◌≤◌, ◌⊎◌, max, List, [], ◌∷◌, ◌++◌, length, get_or, take, drop, refl, sym, ◌∙◌, ap, subst, inl, inr, arith, append_assoc, length-append, length-drop, length-take, take-append-drop}
+use Rattle.std.proofs.Common.{◌≡◌, ℕ, ◌+◌, ◌<◌, ◌≤◌, List, [], ◌∷◌, ◌++◌, length, get_or, take, drop, sym, ◌∙◌, ap, inl, inr, arith, append_assoc, length-append, length-drop, take-append-drop}
 use Rattle.std.proofs.lemmas.List.{take_at, drop_at, drop_more, drop-drop, ext_get_or, get_or-take, get_or-drop, length-take-le}
-use Rattle.mj_disk.specs.Content.{Content, InNone, IsImage, settled, spliced, touched, written}
+use Rattle.mj_disk.specs.Content.{Content, IsImage, settled, spliced, touched, written}
 use Rattle.mj_disk.specs.DiskModel.{Touches}
 use Rattle.mj_disk.specs.Laws.{InNone-front}
 

@@ -1,7 +1,7 @@
 -- What is read, with the unsynced bytes marked, is an image.
-use Rattle.std.proofs.Common.{◌≡◌, ℕ, ◌+◌, ◌-◌, ◌<◌, ◌≤◌, ◌⊎◌, List, [], ◌∷◌, ◌++◌, length, get_or, take, drop, replicate, refl, sym, ◌∙◌, ap, subst, inl, inr, ⊎_elim, arith, length-append, length-drop, length-take, true, false, cond, nat_eq}
+use Rattle.std.proofs.Common.{◌≡◌, ℕ, ◌+◌, ◌<◌, ◌≤◌, ◌⊎◌, List, [], ◌∷◌, length, get_or, take, drop, replicate, refl, ◌∙◌, inl, inr, ⊎_elim, arith, length-drop, length-take, true, false, cond, nat_eq}
 use Rattle.std.proofs.lemmas.List.{length-replicate}
-use Rattle.mj_disk.specs.Content.{Content, InNone, IsImage, spliced}
+use Rattle.mj_disk.specs.Content.{Content, InNone, IsImage}
 use Rattle.mj_disk.specs.Images.{marked_at, marked, chosen_image}
 use Rattle.mj_disk.specs.Laws.{length-spliced, spliced-outside}
 

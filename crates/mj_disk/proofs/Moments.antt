@@ -1,7 +1,7 @@
 -- How what a crash may leave goes on over a run of calls.
-use Rattle.std.proofs.Common.{◌≡◌, ℕ, ◌+◌, ◌<◌, ◌≤◌, ◌⊎◌, List, [], ◌∷◌, ◌++◌, Option, Some, None, max, sym, ◌∙◌, ap, subst, inl, inr, ⊎_elim, refl, arith}
-use Rattle.mj_disk.specs.Content.{Content, IsImage, settled, touched}
-use Rattle.mj_disk.specs.DiskModel.{History, changed, EndedSince, LeftSince, latest, Changes, Syncs, Touches, LeavesOnly, Becomes, Turns}
+use Rattle.std.proofs.Common.{◌≡◌, ℕ, ◌<◌, ◌≤◌, ◌⊎◌, List, [], ◌∷◌, Option, Some, None, sym, ◌∙◌, ap, subst, inl, inr, ⊎_elim, refl, arith}
+use Rattle.mj_disk.specs.Content.{Content, IsImage}
+use Rattle.mj_disk.specs.DiskModel.{History, changed, EndedSince, LeftSince, latest, Changes, Syncs, LeavesOnly}
 use Rattle.mj_disk.proofs.Images.{settled_is}
 
 none_since : (past : List (ℕ × Content)) (moment : ℕ) (image : List ℕ) → latest past ≤ moment → EndedSince past moment image → ⊥

@@ -1,8 +1,8 @@
 -- One entry more in the record of a disk in memory.
-use Rattle.std.proofs.Common.{◌≡◌, ℕ, ◌-◌, ◌+◌, List, [], ◌∷◌, ◌++◌, length, take, drop, reverse, refl, sym, ◌∙◌, ap, arith, length-append}
+use Rattle.std.proofs.Common.{◌≡◌, ℕ, ◌-◌, List, [], ◌∷◌, ◌++◌, length, take, drop, reverse, refl, ◌∙◌, ap, arith, length-append}
 use Rattle.std.proofs.lemmas.List.{reverse-append, take_at, drop_at}
 use Rattle.mj_disk.specs.Content.{written, touched, settled}
-use Rattle.mj_disk.specs.DiskModel.{History, begun, changed}
+use Rattle.mj_disk.specs.DiskModel.{begun, changed}
 use Rattle.mj_disk.specs.Entries.{replayed, history_of, front_of}
 use Rattle.mj_disk.specs.declared.entry.Entry.{Entry}
 use Rattle.mj_disk.specs.declared.entry.Entry.TheVariants.{Wrote, Touched, Synced}

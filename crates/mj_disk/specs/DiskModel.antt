@@ -1,6 +1,6 @@
 -- What a disk held at each moment, and the words in which the calls of a disk say what they change. A disk that
 -- doesn't tell what it holds has no history.
-use Rattle.std.specs.Prelude.{◌≡◌, ℕ, ◌<◌, ◌≤◌, ◌⊎◌, max, List, [], ◌∷◌, length, Option, Some, None}
+use Rattle.std.specs.Prelude.{◌≡◌, ℕ, ◌<◌, ◌≤◌, ◌⊎◌, max, List, [], ◌∷◌, Option, Some, None}
 use Rattle.mj_disk.specs.Content.{Content, IsImage, settled, touched, Spoils}
 
 -- what it holds, and what it held before, each with the moment at which it ended, newest first

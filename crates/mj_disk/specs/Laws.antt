@@ -1,9 +1,9 @@
 -- Proofs of the laws of disks: what a disk in memory reads is an image, and a disk that tells nothing has no history.
-use Rattle.std.proofs.Common.{◌≡◌, ℕ, ◌+◌, ◌-◌, ◌<◌, ◌≤◌, ◌⊎◌, List, [], ◌∷◌, ◌++◌, length, get_or, take, drop, reverse, Option, Some, None, refl, sym, ◌∙◌, ap, inl, inr, arith, length-append, length-drop, length-take, subst}
-use Rattle.std.proofs.lemmas.List.{get_or_append_left, get_or-append_right, get_or-take, get_or-drop, take_all, drop_all}
+use Rattle.std.proofs.Common.{◌≡◌, ℕ, ◌+◌, ◌-◌, ◌<◌, ◌≤◌, ◌⊎◌, List, [], ◌∷◌, ◌++◌, length, get_or, take, drop, reverse, Some, None, refl, ◌∙◌, ap, inl, inr, arith, length-append, length-drop, length-take, subst}
+use Rattle.std.proofs.lemmas.List.{get_or_append_left, get_or-append_right, get_or-take, get_or-drop}
 use Rattle.mj_disk.specs.Content.{Content, InNone, IsImage, settled, spliced, touched, written}
-use Rattle.mj_disk.specs.DiskModel.{History, begun, changed}
-use Rattle.mj_disk.specs.Entries.{entered, replayed, history_of, last_of, kept_before}
+use Rattle.mj_disk.specs.DiskModel.{History}
+use Rattle.mj_disk.specs.Entries.{replayed, history_of, last_of, kept_before}
 use Rattle.mj_disk.specs.declared.entry.Entry.{Entry}
 use Rattle.mj_disk.specs.declared.entry.Entry.TheVariants.{Wrote, Touched, Synced}
 

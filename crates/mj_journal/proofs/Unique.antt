@@ -61,7 +61,7 @@ no_blocks [] none = refl
 no_blocks (block ∷ blocks) none = absurd (omega (arith, none))
 
 -- a text of at most 17 bytes is that of no payloads
-stands_short : (base : ℕ) (payloads : List (List ℕ)) (octets : List ℕ) → StandsFor base payloads octets → length octets ≤ 17 → IsEmptyStore octets
+pub stands_short : (base : ℕ) (payloads : List (List ℕ)) (octets : List ℕ) → StandsFor base payloads octets → length octets ≤ 17 → IsEmptyStore octets
 stands_short base payloads octets stands short =
     let s = stands.2 in
     let long = length-header base stands.0 stands.1 in

@@ -1,7 +1,7 @@
 ghost use Rattle.std.specs.Prelude.{◌≡◌, true, false, None, ◌+◌, ◌^◌, ◌<◌, ◌≤◌, ◌↔◌, ℕ, List, [], ◌∷◌, ◌++◌, length, take, drop, OnOk, OnErr, IfOk, IsErrOf};
 ghost use Rattle.mj_base.specs.Rising.{Rose};
-ghost use Rattle.mj_disk.specs.Content.{settled, spliced};
-ghost use Rattle.mj_disk.specs.DiskModel.{Now, Becomes};
+ghost use Rattle.mj_disk.specs.Content.{IsImage, settled, spliced, touched};
+ghost use Rattle.mj_disk.specs.DiskModel.{Now, Becomes, CrashesAs};
 ghost use Rattle.mj_journal.specs.FileText.{IsPayload, length_octets};
 ghost use Rattle.mj_journal.specs.Appending.{recorded, EndsAt, Appends, AppendsText, CrashesOldOrNew};
 
@@ -121,6 +121,39 @@ pub(crate) fn put<D: Disk>(disk: &mut D, end: u64, octets: &[u8]) -> Result<(), 
     ensures count { D.faults disk.old ≤ D.faults disk.new }
     ensures cause { OnErr result (Rose (D.faults disk.old) (D.faults disk.new)) }
 {
-    write_synced(disk, end + 1, octets)?;
+    write_record(disk, end, octets)?;
+    open_gate(disk, end)
+}
+
+/// Writes a record and a closed gate behind the gate at `end`, and syncs.
+fn write_record<D: Disk>(disk: &mut D, end: u64, octets: &[u8]) -> Result<(), DiskFailed>
+    requires inside { Now (D.told disk.old) (λ held. end + 1 ≤ length held.octets) }
+    requires room { end < 2 ^ 63 }
+    ensures written { OnOk result (Becomes (λ held. settled (spliced (end + 1) octets.now held.octets)) (D.told disk.old) (D.told disk.new)) }
+    ensures settled { OnOk result (D.settled_now disk.new) }
+    ensures crash { CrashesAs (λ held. IsImage (touched (end + 1) (length octets.now) held)) (D.time disk.old, D.time disk.new) (D.told disk.old) (D.told disk.new) }
+    ensures silent { D.told disk.old ≡ None → D.told disk.new ≡ None }
+    ensures later { D.time disk.old ≤ D.time disk.new }
+    ensures failed { OnErr result (D.failed disk.new ≡ true) }
+    ensures unfailed { OnOk result (D.failed disk.new ≡ false) }
+    ensures count { D.faults disk.old ≤ D.faults disk.new }
+    ensures cause { OnErr result (Rose (D.faults disk.old) (D.faults disk.new)) }
+{
+    write_synced(disk, end + 1, octets)
+}
+
+/// Opens the gate at `end`, and syncs.
+fn open_gate<D: Disk>(disk: &mut D, end: u64) -> Result<(), DiskFailed>
+    requires { Now (D.told disk.old) (λ held. end ≤ length held.octets) }
+    ensures written { OnOk result (Becomes (λ held. settled (spliced end (1 ∷ []) held.octets)) (D.told disk.old) (D.told disk.new)) }
+    ensures settled { OnOk result (D.settled_now disk.new) }
+    ensures crash { CrashesAs (λ held. IsImage (touched end 1 held)) (D.time disk.old, D.time disk.new) (D.told disk.old) (D.told disk.new) }
+    ensures silent { D.told disk.old ≡ None → D.told disk.new ≡ None }
+    ensures later { D.time disk.old ≤ D.time disk.new }
+    ensures failed { OnErr result (D.failed disk.new ≡ true) }
+    ensures unfailed { OnOk result (D.failed disk.new ≡ false) }
+    ensures count { D.faults disk.old ≤ D.faults disk.new }
+    ensures cause { OnErr result (Rose (D.faults disk.old) (D.faults disk.new)) }
+{
     write_synced(disk, end, &[1])
 }

@@ -1,5 +1,8 @@
-//! What holds of the texts of files, proved once and for all. The functions do nothing.
+//! What holds of the texts of files, and of openings, proved once and for all. The functions do nothing.
 ghost use Rattle.mj_journal.specs.Laws.{StandsOnce, OpensOnce, TextStands, NoStoreInTheMaking};
+ghost use Rattle.mj_journal.specs.HandedOut.{HandsOutItsList, HandsOutEither, ImagesHandOutEither, BegunHandsOutEither, AppendedHandsOutEither};
+
+use mj_disk::Disk;
 
 /// Bytes stand for at most one list of payloads, and open as at most one, with one base.
 pub fn files_stand_once()
@@ -15,4 +18,16 @@ pub fn texts_stand()
 /// A file in the making has no header.
 pub fn no_store_in_the_making()
     ensures { NoStoreInTheMaking }
+{}
+
+/// An opening of a disk hands out, from its beginning to the closed gate, the list as which the bytes open. Where
+/// each image that a crash now may leave opens as one of two lists, it hands out one of these two, and so does one
+/// after a crash, also one inside an opening. After an append, whole, failed or cut off, the two are the old list and
+/// the one with the payload.
+pub fn an_opening_gives_the_list<D: Disk>()
+    ensures list { (disk : D) → HandsOutItsList (D.told disk) }
+    ensures either { (disk : D) → HandsOutEither (D.told disk) }
+    ensures image { (disk : D) → ImagesHandOutEither (D.told disk) }
+    ensures begin { (before after : D) → BegunHandsOutEither (D.told before) (D.told after) }
+    ensures append { (before after : D) → AppendedHandsOutEither (D.told before) (D.told after) }
 {}

@@ -11,7 +11,7 @@ mod opening;
 
 pub use fault::{AppendFault, OpenFault};
 pub use journal::Journal;
-pub use laws::{files_stand_once, no_store_in_the_making, texts_stand};
+pub use laws::{an_opening_gives_the_list, files_stand_once, no_store_in_the_making, texts_stand};
 pub use making::{MakeFault, Making};
 pub use opening::Opening;
 

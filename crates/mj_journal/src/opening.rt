@@ -56,7 +56,7 @@ impl Opening {
         let Ok(size) = settle(disk) else {
             return Err(OpenFault::DiskFault);
         };
-        if size > SHORT {
+        if is_long(size) {
             return open_long(disk, size);
         }
         let Ok(found) = find_short(disk, size) else {
@@ -177,6 +177,13 @@ pub(crate) fn settle<D: Disk>(disk: &mut D) -> Result<u64, DiskFailed>
 {
     disk.sync()?;
     disk.size()
+}
+
+/// Whether a file of so many bytes is never made anew.
+fn is_long(size: u64) -> bool
+    ensures { MatchBool result (17 < size) (size ≤ 17) }
+{
+    size > SHORT
 }
 
 fn open_long<D: Disk>(disk: &mut D, size: u64) -> Result<Opening, OpenFault>

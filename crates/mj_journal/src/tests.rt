@@ -1,6 +1,8 @@
 ghost use Rattle.std.specs.Prelude.{◌≡◌, None};
 
-use super::{AppendFault, Journal, MakeFault, Making, OpenFault, Opening};
+use super::{
+    AppendFault, Journal, MakeFault, Making, OpenFault, Opening, an_opening_gives_the_list,
+};
 use mj_base::Octets;
 use mj_disk::{Disk, DiskFailed, FileDisk, MemoryDisk};
 use std::alloc::Global;
@@ -185,7 +187,8 @@ fn a_stop_in_an_append_leaves_the_old_file_or_the_new(rt: HostRuntime) -> Result
 #[test]
 fn each_failing_call_of_an_append_is_a_fault(rt: HostRuntime) -> Result<(), Fail> {
     let alloc = rt.alloc();
-    for call in 4..8 {
+    an_opening_gives_the_list::<MemoryDisk>();
+    for (call, payloads) in [(4, 0), (5, 0), (6, 0), (7, 1)] {
         let mut failing = Vec::new(alloc);
         failing.push(call)?;
         let mut disk = disk_of(alloc, HEADER_1, failing, None)?;
@@ -195,6 +198,8 @@ fn each_failing_call_of_an_append_is_a_fault(rt: HostRuntime) -> Result<(), Fail
             Err(AppendFault::DiskFault)
         );
         assert!(rt; opens_as(alloc, &disk, 0, 1)?);
+        let (_, count) = open(alloc, &mut disk, 1).or(Err("opening"))?;
+        assert_eq!(rt; count, payloads);
     }
     Ok(())
 }

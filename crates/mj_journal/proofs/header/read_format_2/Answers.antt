@@ -4,7 +4,8 @@ use Rattle.mj_journal.proofs.header.read_format_2.Goals as goal
 
 pub returns-then-base-lt-MIN_BASE-clause-refused : goal.returns-then-base-lt-MIN_BASE-clause-refused
 returns-then-base-lt-MIN_BASE-clause-refused c =
-    no_format_2 c.args.tail.now c.base_of-base.result c.base_of-base.ensures (omega arith) (inl c.if-base-lt-MIN_BASE.true)
+    let below : c.base_of-base.result < 1 = omega arith in
+    no_format_2 c.args.tail.now c.base_of-base.result c.base_of-base.ensures (omega arith) (inl below)
 
 pub returns-then-base-gt-MAX_BASE-clause-refused : goal.returns-then-base-gt-MAX_BASE-clause-refused
 returns-then-base-gt-MAX_BASE-clause-refused c =

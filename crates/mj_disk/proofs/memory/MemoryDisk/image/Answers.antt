@@ -1,7 +1,5 @@
 use Rattle.std.proofs.Common.{refl, sym, subst, List, ℕ}
-use Rattle.mj_disk.specs.Content.{Content, IsImage}
-use Rattle.mj_disk.specs.DiskModel.{History}
-use Rattle.mj_disk.specs.Images.{chosen_image}
+use Rattle.mj_disk.specs.Content.{IsImage}
 use Rattle.mj_disk.specs.Laws.{recorded_reads, recorded_in_time}
 use Rattle.mj_disk.specs.Recorded.{recorded}
 use Rattle.mj_disk.proofs.Marking.{chosen_is}

@@ -1,5 +1,4 @@
 use Rattle.std.proofs.Common.{◌<◌, length, arith}
-use Rattle.mj_disk.specs.Content.{touched, written}
 use Rattle.mj_disk.specs.DiskModel.{Touches}
 use Rattle.mj_disk.specs.Recorded.{recorded}
 use Rattle.mj_disk.proofs.Images.{touched_touches, written_touches}

@@ -8,8 +8,8 @@ use Rattle.mj_journal.specs.Opening.{Begins, IsEmptyWith}
 use Rattle.mj_journal.proofs.Beginning.{making_leaves, begins_long, begins_empty, begins_made, begun_sized}
 use Rattle.mj_journal.proofs.opening.Opening.begin.Goals as goal
 
-pub returns-then-size-gt-SHORT-clause-begun : goal.returns-then-size-gt-SHORT-clause-begun
-returns-then-size-gt-SHORT-clause-begun g c =
+pub returns-then-is_long-clause-begun : goal.returns-then-is_long-clause-begun
+returns-then-is_long-clause-begun g c =
     IfOk-weaker c.open_long.result
     (λ (o : Opening). (o.size ≡ c.in-Ok.size) × Now (g.D.Disk.told c.settle.new.disk) (λ held. IsHeader o.base (take 16 held.octets)))
     (λ (o : Opening). Begins c.args.base o.base o.size (g.D.Disk.told c.args.disk.now) (g.D.Disk.told c.open_long.new.disk))
@@ -27,7 +27,7 @@ returns-in_default-found-clause-begun g c =
     (λ (o : Opening). Begins c.args.base o.base o.size before after)
     (λ o h.
     let made = subst (λ (t : Option History). Becomes (λ held. settled (header_2 c.args.base ++ 0 ∷ drop 17 held.octets)) t after) c.find_short.ensures.same h.2 in
-    let begins = begins_made c.args.base c.in-Ok.size _ _ _ c.requires.low c.requires.high c.if-size-gt-SHORT.false c.in-Ok.ensures.synced c.in-Ok.ensures.size (λ history is. subst (λ (f : Option ℕ). IsEmptyWith f history.now.octets) c.in_default-found.is (c.in-Ok-find_short.ensures.found history is)) made in
+    let begins = begins_made c.args.base c.in-Ok.size _ _ _ c.requires.low c.requires.high c.if-is_long.ensures c.in-Ok.ensures.synced c.in-Ok.ensures.size (λ history is. subst (λ (f : Option ℕ). IsEmptyWith f history.now.octets) c.in_default-found.is (c.in-Ok-find_short.ensures.found history is)) made in
     subst (λ (b : ℕ). Begins c.args.base b o.size before after) (sym h.0) (subst (λ (n : ℕ). Begins c.args.base c.args.base n before after) (sym h.1) begins))
     c.make.ensures.made
 
