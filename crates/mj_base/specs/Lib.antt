@@ -3,3 +3,4 @@ pub mod ServiceName
 pub mod Rising
 pub mod Reading
 pub mod Writing
+pub mod EventBounds

@@ -21,6 +21,4 @@ pub enum Reason {
     Slow,
     /// The queue of client requests is full.
     QueueFull,
-    /// The message asks for a part of the broker that isn't built yet.
-    NotBuilt,
 }

@@ -1,2 +1,7 @@
-pub mod LaneLemmas
-pub mod MachineRun
+pub mod PlaceLemmas
+pub mod DeadlineLemmas
+pub mod KeptLemmas
+pub mod SettleLemmas
+pub mod DueLemmas
+pub mod WireLemmas
+pub mod BrokerLemmas

@@ -1,34 +1,60 @@
--- When a broker stands for a state of the machine.
-use Rattle.std.specs.Prelude.{ℕ, ◌≡◌, false, List, length, get_or, Option, Some, None, ⊤}
+-- When a broker stands for the machine.
+use Rattle.std.specs.Prelude.{ℕ, ◌≡◌, ⊤, Bool, List, [], ◌++◌, None}
 use Rattle.mj_base.specs.declared.limits.Limits.{Limits}
-use Rattle.mj_wire.specs.WireState.{State as WireValue}
-use Rattle.mj_wire.specs.WireState.{StandsFor}
-use Rattle.mj_broker.specs.MachineState.{Machine}
-use Rattle.mj_broker.specs.BrokerValue.{BrokerValue}
+use Rattle.mj_base.specs.declared.event.Event.{Event}
+use Rattle.mj_base.specs.declared.event.Event.TheVariants as events
+use Rattle.mj_base.specs.declared.event.Out.{Out}
+use Rattle.mj_queue.specs.Settling.{pair}
+use Rattle.mj_machine.specs.MachineState.{Machine, State, Stream}
+use Rattle.mj_machine.specs.EventStep.{outs_of, state_after, streams_after}
+use Rattle.mj_machine.specs.TickStep.{at_moment, due_numbers, silent_numbers}
+use Rattle.mj_machine.specs.Connections.{connection_of}
+use Rattle.mj_machine.specs.declared.connection.Connection.{Connection}
+use Rattle.mj_broker.specs.declared.wires.Link.{Link}
+use Rattle.mj_broker.specs.Wires.{AreFresh, WiresStand, wire_of}
 
--- a lane's wire stands for the lane's whole stream
-abbrev pub StandsAt : Limits → Option WireValue → Option (List ℕ) → Type 0
-StandsAt limits None None = ⊤
-StandsAt limits (Some wire) (Some stream) = StandsFor limits wire stream
-StandsAt limits None (Some stream) = ⊥
-StandsAt limits (Some wire) None = ⊥
+-- what contracts see of a broker: its limits, the machine's state but for the streams, the reader of each connection's
+-- stream, and whether a fault has ended it
+pub record BrokerValue : Type 0 where
+  pub limits : Limits
+  pub state : State
+  pub wires : List Link
+  pub spent : Bool
 
--- each lane's wire stands for that lane of the state
-pub record AreAt (limits : Limits) (wires : List (Option WireValue)) (state : Machine) : Type 0 where
-  pub lanes : length state ≡ length wires
-  pub streams : (lane : ℕ) → StandsAt limits (get_or wires lane None) (get_or state lane None)
-
--- the broker has these limits, and its wires stand for the state
-pub record IsAt (limits : Limits) (broker : BrokerValue) (state : Machine) : Type 0 where
+-- the broker has these limits and this state, and each reader was fed the whole stream of its connection
+pub record IsAt (limits : Limits) (broker : BrokerValue) (m : Machine) : Type 0 where
   pub limited : broker.limits ≡ limits
-  pub wires : AreAt limits broker.wires state
+  pub state : broker.state ≡ m.state
+  pub streams : WiresStand limits broker.wires m.streams
 
--- a wire that may be fed
-abbrev pub IsReady : Option WireValue → Type 0
-IsReady None = ⊤
-IsReady (Some wire) = wire.spent ≡ false
+-- each connection has a reader that may be fed
+pub record AreReady (connections : List Connection) (wires : List Link) : Type 0 where
+  pub covered : (n : ℕ) → wire_of n wires ≡ None → connection_of n connections ≡ None
+  pub fresh : AreFresh wires
 
--- there is a place for each lane, and each wire may be fed
-pub record AreReady (limits : Limits) (wires : List (Option WireValue)) : Type 0 where
-  pub lanes : length wires ≡ limits.lanes
-  pub each : (lane : ℕ) → IsReady (get_or wires lane None)
+-- and no other connection has one; no queued request has a waiting worker
+pub record AreSettled (state : State) (wires : List Link) : Type 0 where
+  pub ready : AreReady state.connections wires
+  pub ended : (n : ℕ) → connection_of n state.connections ≡ None → wire_of n wires ≡ None
+  pub settled : pair state.waiting state.queue ≡ None
+
+abbrev pub IsIdleAt : ℕ → State → Type 0
+IsIdleAt ms s = (due_numbers (at_moment ms s) ≡ []) × (silent_numbers (at_moment ms s) ≡ [])
+
+-- events that want no memory, where no queued request has a waiting worker: a report, a closing, and a tick at which no
+-- lease ends and no heartbeat is due
+abbrev pub IsIdle : State → Event → Type 0
+IsIdle s (events.Open lane) = ⊥
+IsIdle s (events.Bytes lane piece) = ⊥
+IsIdle s (events.Sent lane) = ⊤
+IsIdle s (events.Close lane) = ⊤
+IsIdle s (events.Tick ms) = IsIdleAt ms s
+IsIdle s events.Stop = ⊤
+
+-- an event took a state and the readers of its connections to those behind it, and added what the machine does
+abbrev pub IsStep : Limits → Event → State → State → List Link → List Link → List Out → List Out → Type 0
+IsStep limits event old now wires wires_now before after =
+    (streams : List Stream) → WiresStand limits wires streams
+    → (now ≡ (state_after limits (record { state = old; streams = streams }) event).state)
+    × WiresStand limits wires_now (streams_after (record { state = old; streams = streams }) event)
+    × (after ≡ before ++ outs_of limits (record { state = old; streams = streams }) event)

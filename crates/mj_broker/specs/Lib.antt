@@ -1,6 +1,6 @@
-pub mod MessageAnswer
-pub mod MachineState
-pub mod EventStep
-pub mod MachineRun
-pub mod BrokerValue
+pub mod Places
+pub mod Deadlines
+pub mod CoreState
+pub mod Rows
+pub mod Wires
 pub mod BrokerState

@@ -1,16 +1,16 @@
-ghost use Rattle.std.specs.Prelude.{◌≡◌, ◌↔◌, ◌<◌, List, ℕ, [], ◌∷◌, ◌++◌, true, false, is_err, set, get_or, Option, IfOk, OnOk};
+ghost use Rattle.std.specs.Prelude.{◌≡◌, ◌↔◌, ◌<◌, ◌≤◌, ◌+◌, ◌^◌, List, ◌++◌, true, false, is_err, None, IsOk, IfOk, OnOk};
+ghost use Rattle.mj_base.specs.EventBounds.{IsTakenBy};
 ghost use Rattle.mj_base.specs.declared.limits.Limits.{Limits as LimitsOf};
-ghost use Rattle.mj_base.specs.declared.event.Out.TheVariants.{Piece};
-ghost use Rattle.mj_greeting.specs.GreetingGrammar.{broker_greeting};
-ghost use Rattle.mj_wire.specs.WireState.{StandsFor};
-ghost use Rattle.mj_broker.specs.MachineState.{Machine, start};
-ghost use Rattle.mj_broker.specs.EventStep.{IsTakenBy, state_after, outs_of, stream_after, stream_outs};
-ghost use Rattle.mj_broker.specs.BrokerState.{IsAt, AreAt, AreReady, IsReady, StandsAt};
+ghost use Rattle.mj_base.specs.declared.event.Event.TheVariants as AnEvent;
+ghost use Rattle.mj_queue.specs.Settling.{pair};
+ghost use Rattle.mj_machine.specs.MachineState.{Machine, Stream, start};
+ghost use Rattle.mj_machine.specs.EventStep.{outs_of, state_after};
+ghost use Rattle.mj_broker.specs.BrokerState.{AreReady, AreSettled, IsAt, IsIdle, IsStep};
 
 use crate::fault::EventFault;
-use crate::item::handle_items;
+use crate::machine::Core;
+use crate::wires::{Link, drop_ended, feed};
 use mj_base::{Event, Limits, NoMemory, Octets, Out};
-use mj_greeting::broker_greeting;
 use mj_wire::Wire;
 use std::alloc::Global;
 use std::marker::Model;
@@ -19,20 +19,20 @@ use std::marker::Model;
 #[derive(Drop)]
 pub struct Broker {
     limits: Limits,
-    wires: Vec<Option<Wire>>,
+    core: Core,
+    wires: Vec<Link>,
     spent: bool,
 }
 
 impl Model for Broker {
-    ghost use Rattle.std.specs.Prelude.{ℕ, ◌≡◌, get_or, length, None};
-    ghost use Rattle.mj_broker.specs.BrokerValue.{BrokerValue};
-    ghost use Rattle.mj_broker.specs.BrokerState.{AreReady};
+    ghost use Rattle.std.specs.Prelude.{◌≡◌, false};
+    ghost use Rattle.mj_broker.specs.BrokerState.{AreSettled, BrokerValue};
 
     ghost Value = { BrokerValue };
 
-    ghost view = { λ b. record { limits = b.limits; wires = b.wires.items; spent = b.spent } };
+    ghost view = { λ b. record { limits = b.limits; state = b.core; wires = b.wires.items; spent = b.spent } };
 
-    ghost invariant = { λ b. AreReady b.limits b.wires.items };
+    ghost invariant = { λ b. b.spent ≡ false → AreSettled b.core b.wires.items };
 }
 
 impl Broker {
@@ -41,159 +41,137 @@ impl Broker {
         ensures state { IfOk result (λ broker. IsAt limits.now broker (start limits.now)) }
         ensures limits { IfOk result (λ broker. broker.limits ≡ limits.now) }
         ensures fresh { IfOk result (λ broker. broker.spent ≡ false) }
+        ensures first { IfOk result (λ broker. broker.state.next ≡ 1) }
     {
-        let mut wires = Vec::new(alloc);
-        for lane in 0..limits.lanes {
-            wires.push(None)?;
-        }
         Ok(Broker {
             limits: *limits,
-            wires,
+            core: Core::new(alloc, limits)?,
+            wires: Vec::new(alloc),
             spent: false,
         })
     }
 
     /// Handles an event, and appends what is to be done to the lanes. After a fault the broker is spent, and
-    /// `outs` has some front of what was due.
+    /// `outs` is given up.
     pub fn event(
         &mut self,
         alloc: Global,
         event: Event,
         outs: &mut Vec<Out>,
     ) -> Result<(), EventFault>
-        requires { IsTakenBy self.old.limits.lanes event }
-        ensures ok { OnOk result ((limits : LimitsOf) (state : Machine) → IsAt limits self.old state
-            → IsAt limits self.new (state_after limits state event)) }
-        ensures outs { OnOk result ((limits : LimitsOf) (state : Machine) → IsAt limits self.old state
-            → outs.new.items ≡ outs.old.items ++ outs_of limits state event) }
+        requires within { IsTakenBy self.old.limits.lanes event }
+
+        // So many connections were never opened.
+        requires few { self.old.state.next < 2 ^ 63 }
+        ensures ok { OnOk result ((limits : LimitsOf) (m : Machine) → IsAt limits self.old m
+            → IsAt limits self.new (state_after limits m event)) }
+        ensures outs { OnOk result ((limits : LimitsOf) (m : Machine) → IsAt limits self.old m
+            → outs.new.items ≡ outs.old.items ++ outs_of limits m event) }
 
         // An earlier fault, and nothing else, is answered by `Spent`.
         ensures spent { (result ≡ Err EventFault.Spent) ↔ (self.old.spent ≡ true) }
         ensures after { self.new.spent ≡ is_err result }
         ensures limits { self.new.limits ≡ self.old.limits }
+
+        // Each connection has the reader of its stream, no other has one, and no queued request has a waiting worker.
+        ensures settled { OnOk result (AreSettled self.new.state self.new.wires) }
+
+        // Such an event takes no memory.
+        ensures idle { self.old.spent ≡ false → IsIdle self.old.state event → IsOk result }
+
+        // An event opens one connection at most.
+        ensures next { OnOk result (self.new.state.next ≤ self.old.state.next + 1) }
     {
         if self.spent {
             return Err(EventFault::Spent);
         }
         self.spent = true;
-        handle_event(alloc, &self.limits, &mut self.wires, event, outs)?;
+        handle(
+            alloc,
+            &self.limits,
+            &mut self.core,
+            &mut self.wires,
+            event,
+            outs,
+        )?;
+        drop_ended(&mut self.wires, &self.core);
         self.spent = false;
         Ok(())
     }
 }
 
-fn handle_event(
+fn handle(
     alloc: Global,
     limits: &Limits,
-    wires: &mut Vec<Option<Wire>>,
+    core: &mut Core,
+    wires: &mut Vec<Link>,
     event: Event,
     outs: &mut Vec<Out>,
 ) -> Result<(), NoMemory>
-    requires taken { IsTakenBy limits.now.lanes event }
-    requires ready { AreReady limits.now wires.old.items }
-    ensures ready { AreReady limits.now wires.new.items }
-    ensures state { OnOk result ((state : Machine) → AreAt limits.now wires.old.items state
-        → AreAt limits.now wires.new.items (state_after limits.now state event)) }
-    ensures outs { OnOk result ((state : Machine) → AreAt limits.now wires.old.items state
-        → outs.new.items ≡ outs.old.items ++ outs_of limits.now state event) }
+    requires within { IsTakenBy limits.now.lanes event }
+    requires few { core.old.next < 2 ^ 63 }
+    requires ready { AreReady core.old.connections wires.old.items }
+    requires settled { pair core.old.waiting core.old.queue ≡ None }
+    ensures idle { IsIdle core.old event → IsOk result }
+    ensures step { OnOk result (IsStep limits.now event core.old core.new wires.old.items wires.new.items outs.old.items outs.new.items) }
+    ensures ready { OnOk result (AreReady core.new.connections wires.new.items) }
+    ensures settled { OnOk result (pair core.new.waiting core.new.queue ≡ None) }
+    ensures next { OnOk result (core.new.next ≤ core.old.next + 1) }
 {
     match event {
-        Event::Open(lane) => open(alloc, limits, wires, lane, outs),
-        Event::Bytes(lane, piece) => take_piece(alloc, limits, wires, lane, &piece, outs),
-        Event::Close(lane) => {
-            wires[lane as usize] = None;
-            Ok(())
-        }
-        Event::Sent(_) | Event::Tick(_) | Event::Stop => Ok(()),
+        Event::Open(lane) => open(alloc, limits, core, wires, lane, outs),
+        Event::Bytes(lane, piece) => take_piece(alloc, core, wires, lane, &piece, outs),
+        Event::Sent(lane) => core.report(alloc, lane, outs),
+        Event::Close(lane) => core.close(alloc, lane, outs),
+        Event::Tick(ms) => core.pass(alloc, ms, outs),
+        Event::Stop => Ok(()),
     }
 }
 
-/// A new connection on the lane, in place of one that stands there, is greeted.
+/// A new connection on the lane, with the reader of its stream.
 fn open(
     alloc: Global,
     limits: &Limits,
-    wires: &mut Vec<Option<Wire>>,
+    core: &mut Core,
+    wires: &mut Vec<Link>,
     lane: u32,
     outs: &mut Vec<Out>,
 ) -> Result<(), NoMemory>
-    requires lane { lane < limits.now.lanes }
-    requires ready { AreReady limits.now wires.old.items }
-    ensures ready { AreReady limits.now wires.new.items }
-    ensures state { OnOk result ((state : Machine) → AreAt limits.now wires.old.items state
-        → AreAt limits.now wires.new.items (set state lane (Some []))) }
-    ensures outs { OnOk result (outs.new.items ≡ outs.old.items ++ Piece lane broker_greeting ∷ []) }
+    requires few { core.old.next < 2 ^ 63 }
+    requires ready { AreReady core.old.connections wires.old.items }
+    ensures step { OnOk result (IsStep limits.now (AnEvent.Open lane) core.old core.new wires.old.items wires.new.items outs.old.items outs.new.items) }
+    ensures ready { OnOk result (AreReady core.new.connections wires.new.items) }
+    ensures settled { OnOk result (pair core.new.waiting core.new.queue ≡ None) }
+    ensures next { OnOk result (core.new.next ≤ core.old.next + 1) }
 {
-    let wire = Wire::new(alloc, limits)?;
-    let mut piece = Octets::new(alloc);
-    piece.push_all(&broker_greeting())?;
-    outs.push(Out::Piece(lane, piece))?;
-    wires[lane as usize] = Some(wire);
-    Ok(())
+    let link = Link {
+        number: core.next_number(),
+        wire: Wire::new(alloc, limits)?,
+    };
+    wires.insert(0, link)?;
+    core.open(alloc, lane, outs)
 }
 
-/// A lane without a connection passes its bytes over.
+/// The next piece of the stream of the lane's connection; without one it is passed over.
 fn take_piece(
     alloc: Global,
-    limits: &Limits,
-    wires: &mut Vec<Option<Wire>>,
+    core: &mut Core,
+    wires: &mut Vec<Link>,
     lane: u32,
     piece: &Octets,
     outs: &mut Vec<Out>,
 ) -> Result<(), NoMemory>
-    requires lane { lane < limits.now.lanes }
-    requires ready { AreReady limits.now wires.old.items }
-    ensures ready { AreReady limits.now wires.new.items }
-    ensures state { OnOk result ((state : Machine) → AreAt limits.now wires.old.items state
-        → AreAt limits.now wires.new.items (set state lane (stream_after limits.now piece.now (get_or state lane None)))) }
-    ensures outs { OnOk result ((state : Machine) → AreAt limits.now wires.old.items state
-        → outs.new.items ≡ outs.old.items ++ stream_outs limits.now lane piece.now (get_or state lane None)) }
+    requires ready { AreReady core.old.connections wires.old.items }
+    ensures step { OnOk result ((limits : LimitsOf) → IsStep limits (AnEvent.Bytes lane piece.now) core.old core.new wires.old.items wires.new.items outs.old.items outs.new.items) }
+    ensures ready { OnOk result (AreReady core.new.connections wires.new.items) }
+    ensures settled { OnOk result (pair core.new.waiting core.new.queue ≡ None) }
+    ensures next { OnOk result (core.new.next ≤ core.old.next + 1) }
 {
-    let wire = wires[lane as usize].take();
-    wires[lane as usize] = feed_lane(alloc, wire, lane, piece, outs)?;
-    Ok(())
-}
-
-/// Feeds the lane's wire, where somebody is connected.
-fn feed_lane(
-    alloc: Global,
-    wire: Option<Wire>,
-    lane: u32,
-    piece: &Octets,
-    outs: &mut Vec<Out>,
-) -> Result<Option<Wire>, NoMemory>
-    requires { IsReady wire }
-    ensures ready { IfOk result IsReady }
-    ensures state { IfOk result (λ left. (limits : LimitsOf) (stream : Option (List ℕ)) → StandsAt limits wire stream
-        → StandsAt limits left (stream_after limits piece.now stream)) }
-    ensures outs { OnOk result ((limits : LimitsOf) (stream : Option (List ℕ)) → StandsAt limits wire stream
-        → outs.new.items ≡ outs.old.items ++ stream_outs limits lane piece.now stream) }
-{
-    match wire {
-        Some(wire) => feed(alloc, wire, lane, piece, outs),
-        None => Ok(None),
-    }
-}
-
-/// Feeds a lane's wire, and gives it back where the connection stands after that.
-fn feed(
-    alloc: Global,
-    mut wire: Wire,
-    lane: u32,
-    piece: &Octets,
-    outs: &mut Vec<Out>,
-) -> Result<Option<Wire>, NoMemory>
-    requires { wire.spent ≡ false }
-    ensures ready { IfOk result IsReady }
-    ensures state { IfOk result (λ left. (limits : LimitsOf) (stream : List ℕ) → StandsFor limits wire stream
-        → StandsAt limits left (stream_after limits piece.now (Some stream))) }
-    ensures outs { OnOk result ((limits : LimitsOf) (stream : List ℕ) → StandsFor limits wire stream
-        → outs.new.items ≡ outs.old.items ++ stream_outs limits lane piece.now (Some stream)) }
-{
-    let mut items = Vec::new(alloc);
-    wire.feed(alloc, piece.as_slice(), &mut items)?;
-    if handle_items(alloc, lane, items.as_slice(), outs)? {
-        Ok(Some(wire))
-    } else {
-        Ok(None)
+    match core.number_on(lane) {
+        None => core.gain(alloc, lane, &[], outs),
+        Some(number) => {
+            let items = feed(alloc, wires, number, piece.as_slice())?;
+            core.gain(alloc, lane, items.as_slice(), outs)
+        }
     }
 }

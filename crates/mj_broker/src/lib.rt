@@ -2,10 +2,18 @@
 //! nothing outside.
 #![tactic(auto)]
 
-mod answer;
 mod broker;
+mod connections;
+mod deadlines;
 mod fault;
-mod item;
+mod happen;
+mod held;
+mod machine;
+mod message;
+mod said;
+mod text;
+mod tick;
+mod wires;
 
 pub use broker::Broker;
 pub use fault::EventFault;

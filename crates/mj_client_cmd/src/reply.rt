@@ -52,12 +52,12 @@ pub fn read_reply(alloc: Global, message: &Frames) -> Result<Option<ClientReply>
     }))
 }
 
-/// The frames of this reply. In 0.1 the empty frame stands first, and each reply is the last.
+/// The frames of this reply. Where `is_writable` says that its version has such a reply, they are that reply's and
+/// are read back as it.
 pub fn write_reply(alloc: Global, reply: &ClientReply) -> Result<Frames, NoMemory>
-    requires { IsReplyKind reply.now.version reply.now.lead reply.now.last }
     ensures exact { IfOk result (λ message. message ≡ reply_frames reply.now) }
-    ensures related { IfOk result (λ message. IsClientReply reply.now message) }
-    ensures read { IfOk result (λ message. reply_of message ≡ Some reply.now) }
+    ensures related { IsReplyKind reply.now.version reply.now.lead reply.now.last → IfOk result (λ message. IsClientReply reply.now message) }
+    ensures read { IsReplyKind reply.now.version reply.now.lead reply.now.last → IfOk result (λ message. reply_of message ≡ Some reply.now) }
 {
     let code = code_of(reply.last);
     write_message(

@@ -27,6 +27,9 @@ digit-at xs i all inside = digit-small (get_or xs i 0) (digit_by (is_digit (get_
 own : IsNumeralModel (λ ds. list_all is_digit ds ≡ true) (digits_onto 0)
 own = numerals_by_fold _ (search rules) digits_onto (search rules)
 
+pub decimal-digits : (n : ℕ) → n < 2 ^ 64 → list_all is_digit (decimal n) ≡ true
+decimal-digits n fits = digits_decimal own n fits
+
 some-is : (n m : ℕ) → Some n ≡ Some m → n ≡ m
 some-is n m e = cc
 

@@ -9,3 +9,6 @@ pub mod Rows
 pub mod Filling
 pub mod Digits
 pub mod Pieces
+pub mod Spelling
+pub mod OptionLaws
+pub mod RunLaws

@@ -9,11 +9,11 @@ use Rattle.mj_base.specs.declared.event.Out.{Out}
 use Rattle.mj_base.specs.declared.sink.WriteAnswer.{WriteAnswer}
 use Rattle.mj_base.specs.declared.sink.WriteAnswer.TheVariants as writes
 use Rattle.mj_broker.specs.declared.broker.Broker.{Broker}
-use Rattle.mj_broker.specs.MachineState.{Machine, start}
-use Rattle.mj_broker.specs.EventStep.{state_after, outs_of}
-use Rattle.mj_broker.specs.MachineRun.{run_state, run_outs}
+use Rattle.mj_machine.specs.MachineState.{Machine, start}
+use Rattle.mj_machine.specs.EventStep.{state_after, outs_of}
+use Rattle.mj_machine.specs.MachineRun.{run_state, run_outs}
 use Rattle.mj_broker.specs.BrokerState.{IsAt}
-use Rattle.mj_broker.proofs.MachineRun.{run_state-append, run_outs-append}
+use Rattle.mj_machine.proofs.RunLemmas.{run_state-append, run_outs-append}
 use Rattle.mj_prog.specs.declared.turn.Halt.TheVariants as halts
 use Rattle.mj_prog.specs.declared.next.Next.TheVariants as nexts
 use Rattle.mj_prog.specs.Script.{script}

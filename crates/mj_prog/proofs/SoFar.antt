@@ -11,7 +11,7 @@ use Rattle.mj_prog.specs.declared.next.Next.{Next}
 use Rattle.mj_prog.specs.declared.next.Next.TheVariants as nexts
 use Rattle.mj_prog.specs.Script.{Ending, IsLawful, lines_of, ended_part, events_in, events_on, ending_in, ending_on, script, meaning_of}
 use Rattle.mj_prog.specs.ReplayTable.{IsInput}
-use Rattle.mj_prog.specs.ReadSoFar.{HasNoNewline, IsNewlineAt, IsActedOn, IsRead, IsSoFar, IsNext, MeansNext, NextCause}
+use Rattle.mj_prog.specs.ReadSoFar.{HasNoNewline, IsNewlineAt, IsActedOn, IsRead, IsSoFar, IsNext, IsStep, IsBehind, MeansNext, StepCause}
 use Rattle.mj_prog.proofs.ScriptLines.{lines-newline, lines-last, lines-ended, lines-long, ended-newline, ended-nothing}
 use Rattle.mj_prog.proofs.Lists.{drop-all}
 use Rattle.mj_prog.proofs.Inputs.{text-now, read-got, read-end, read-kept}
@@ -23,21 +23,27 @@ join : (acted line rest : List ℕ) → (acted ++ (line ++ 10 ∷ [])) ++ rest �
 join acted line rest =
     append_assoc acted (line ++ 10 ∷ []) rest ∙ ap (λ (t : List ℕ). acted ++ t) (append_assoc line (10 ∷ []) rest)
 
--- one more line that is an event
-pub acted-line : (lanes : ℕ) (acted line : List ℕ) (taken : List Event) (lines : ℕ) (event : Event) → HasNoNewline line
-    → meaning_of lanes line ≡ meanings.Act event → IsActedOn lanes acted taken lines
-    → IsActedOn lanes (acted ++ (line ++ 10 ∷ [])) (taken ++ event ∷ []) (lines + 1)
-acted-line lanes acted line taken lines event none means before = record {
+-- after a line that means this, the script goes on with these events
+abbrev pub GoesOn : Meaning → List Event → Type 0
+GoesOn meaning given =
+    ((later : List Event) → events_on meaning later ≡ given ++ later) × ((number : ℕ) (later : Ending) → ending_on meaning number later ≡ later)
+
+-- one more line after which the script goes on
+pub acted-line : (lanes : ℕ) (acted line : List ℕ) (taken given : List Event) (lines : ℕ) (meaning : Meaning) → HasNoNewline line
+    → meaning_of lanes line ≡ meaning → GoesOn meaning given → IsActedOn lanes acted taken lines
+    → IsActedOn lanes (acted ++ (line ++ 10 ∷ [])) (taken ++ given) (lines + 1)
+acted-line lanes acted line taken given lines meaning none means on before = record {
   events = λ rest.
       ap (λ (t : List ℕ). events_in lanes (lines_of t)) (join acted line rest)
       ∙ before.events (line ++ 10 ∷ rest)
-      ∙ ap (λ (es : List Event). taken ++ es) (ap (events_in lanes) (lines-newline line rest none) ∙ ap (λ (m : Meaning). events_on m (events_in lanes (lines_of rest))) means)
-      ∙ sym (append_assoc taken (event ∷ []) (events_in lanes (lines_of rest)));
+      ∙ ap (λ (es : List Event). taken ++ es) (ap (events_in lanes) (lines-newline line rest none) ∙ ap (λ (m : Meaning). events_on m (events_in lanes (lines_of rest))) means ∙ on.0 (events_in lanes (lines_of rest)))
+      ∙ sym (append_assoc taken given (events_in lanes (lines_of rest)));
   ending = λ rest.
       ap (λ (t : List ℕ). ending_in lanes 1 (lines_of t)) (join acted line rest)
       ∙ before.ending (line ++ 10 ∷ rest)
       ∙ ap (ending_in lanes (lines + 1)) (lines-newline line rest none)
-      ∙ ap (λ (m : Meaning). ending_on m (lines + 1) (ending_in lanes (lines + 1 + 1) (lines_of rest))) means;
+      ∙ ap (λ (m : Meaning). ending_on m (lines + 1) (ending_in lanes (lines + 1 + 1) (lines_of rest))) means
+      ∙ on.1 (lines + 1) (ending_in lanes (lines + 1 + 1) (lines_of rest));
   ended = λ rest clean.
       ap ended_part (join acted line rest ∙ sym (append_assoc acted line (10 ∷ rest)))
       ∙ ended-newline (acted ++ line) rest clean
@@ -174,83 +180,101 @@ so_far-kept from now new lanes pending room lines taken s kept = record {
   read = read-kept from now new room (s.acted ++ pending) s.read kept;
 }
 
-pub so_far-line : (from now : Option (List ℕ)) (lanes : ℕ) (pending line rest : List ℕ) (room lines : ℕ) (taken : List Event) (event : Event)
-    → IsSoFar from now lanes pending room lines taken → HasNoNewline line → pending ≡ line ++ 10 ∷ rest → meaning_of lanes line ≡ meanings.Act event
-    → IsSoFar from now lanes rest room (lines + 1) (taken ++ event ∷ [])
-so_far-line from now lanes pending line rest room lines taken event s none cut means = record {
+pub so_far-line : (from now : Option (List ℕ)) (lanes : ℕ) (pending line rest : List ℕ) (room lines : ℕ) (taken given : List Event) (meaning : Meaning)
+    → IsSoFar from now lanes pending room lines taken → HasNoNewline line → pending ≡ line ++ 10 ∷ rest → meaning_of lanes line ≡ meaning → GoesOn meaning given
+    → IsSoFar from now lanes rest room (lines + 1) (taken ++ given)
+so_far-line from now lanes pending line rest room lines taken given meaning s none cut means on = record {
   acted = s.acted ++ (line ++ 10 ∷ []);
-  before = acted-line lanes s.acted line taken lines event none means s.before;
+  before = acted-line lanes s.acted line taken given lines meaning none means on s.before;
   read = subst (IsRead from now room) (ap (λ (xs : List ℕ). s.acted ++ xs) cut ∙ sym (join s.acted line rest)) s.read;
 }
 
-pub so_far-last : (from now : Option (List ℕ)) (lanes : ℕ) (pending : List ℕ) (room lines : ℕ) (taken : List Event) (event : Event)
-    → IsSoFar from now lanes pending room lines taken → HasNoNewline pending → room ≡ 0 → 0 < length pending → meaning_of lanes pending ≡ meanings.Act event
-    → IsSoFar from now lanes [] room (lines + 1) (taken ++ event ∷ [])
-so_far-last from now lanes pending room lines taken event s none over some means =
+pub so_far-last : (from now : Option (List ℕ)) (lanes : ℕ) (pending : List ℕ) (room lines : ℕ) (taken given : List Event) (meaning : Meaning)
+    → IsSoFar from now lanes pending room lines taken → HasNoNewline pending → room ≡ 0 → 0 < length pending → meaning_of lanes pending ≡ meaning → GoesOn meaning given
+    → IsSoFar from now lanes [] room (lines + 1) (taken ++ given)
+so_far-last from now lanes pending room lines taken given meaning s none over some means on =
     let h = s.read.over over in
     let whole = s.acted ++ (pending ++ 10 ∷ []) in
     record {
       acted = whole;
-      before = acted-line lanes s.acted pending taken lines event none means s.before;
+      before = acted-line lanes s.acted pending taken given lines meaning none means on s.before;
       read = record {
         reading = λ more. absurd (omega arith);
         over = λ _. (h.0, h.1, h.2 ∙ sym (lines-ended s.acted pending none some) ∙ ap lines_of (sym (append-nil whole)));
       };
     }
 
+-- what stands where a line was taken out
+behind-is : (from now : Option (List ℕ)) (old new : Progress) (count : ℕ) (taken : List Event) → IsBehind old new count
+    → IsSoFar from now old.lanes (drop count old.pending.items) old.room (old.lines + 1) taken
+    → IsSoFar from now new.lanes new.pending.items new.room new.lines taken
+behind-is from now old new count taken behind s =
+    subst (λ (xs : List ℕ). IsSoFar from now new.lanes xs new.room new.lines taken) (sym behind.0)
+    (subst (λ (n : ℕ). IsSoFar from now new.lanes (drop count old.pending.items) new.room n taken) (sym behind.1)
+    (subst (λ (n : ℕ). IsSoFar from now n (drop count old.pending.items) new.room (old.lines + 1) taken) (sym behind.2)
+    (subst (λ (n : ℕ). IsSoFar from now old.lanes (drop count old.pending.items) n (old.lines + 1) taken) (sym behind.3) s)))
+
+-- doing what the first line says, where it and what follows it are known
+follow-first : (from now : Option (List ℕ)) (old new : Progress) (count : ℕ) (meaning : Meaning) (next : Option Next) (taken : List Event)
+    → ((given : List Event) → GoesOn meaning given → IsSoFar from now old.lanes (drop count old.pending.items) old.room (old.lines + 1) (taken ++ given))
+    → FirstMeans old.lanes old.pending.items old.room meaning
+    → MeansNext old new count (Ok meaning) next
+    → IsSoFar from now old.lanes old.pending.items old.room old.lines taken
+    → IsStep from now new.lanes new.pending.items new.room new.lines taken next
+follow-first from now old new count (meanings.Act event) next taken behind first means s =
+    subst (λ (n : Option Next). IsStep from now new.lanes new.pending.items new.room new.lines taken n) (sym means.0)
+    (behind-is from now old new count (taken ++ event ∷ []) means.1 (behind (event ∷ []) (λ later. refl, λ number later. refl)))
+follow-first from now old new count meanings.Nothing next taken behind first means s =
+    subst (λ (n : Option Next). IsStep from now new.lanes new.pending.items new.room new.lines taken n) (sym means.0)
+    (behind-is from now old new count taken means.1
+    (subst (λ (es : List Event). IsSoFar from now old.lanes (drop count old.pending.items) old.room (old.lines + 1) es) (append-nil taken) (behind [] (λ later. refl, λ number later. refl))))
+follow-first from now old new count meanings.Stop next taken behind first means s =
+    subst (λ (n : Option Next). IsStep from now new.lanes new.pending.items new.room new.lines taken n) (sym means.0)
+    (subst (λ (p : Progress). IsNext from now p.lanes p.pending.items p.room p.lines taken nexts.Over) (sym means.1)
+    (over-stop from now old.lanes old.pending.items old.room old.lines taken s first))
+follow-first from now old new count meanings.Unlawful next taken behind first means s =
+    subst (λ (n : Option Next). IsStep from now new.lanes new.pending.items new.room new.lines taken n) (sym means.0)
+    (subst (λ (p : Progress). IsNext from now p.lanes p.pending.items p.room p.lines taken (nexts.Line (old.lines + 1))) (sym means.1)
+    (line-unlawful from now old.lanes old.pending.items old.room old.lines taken s first))
+
+-- nothing was done without memory
+follow-memory : (from now : Option (List ℕ)) (old new : Progress) (count : ℕ) (e : NoMemory) (next : Option Next) (taken : List Event)
+    → MeansNext old new count (Err e) next
+    → IsSoFar from now old.lanes old.pending.items old.room old.lines taken
+    → IsStep from now new.lanes new.pending.items new.room new.lines taken next
+follow-memory from now old new count e next taken means s =
+    subst (λ (n : Option Next). IsStep from now new.lanes new.pending.items new.room new.lines taken n) (sym means.0)
+    (subst (λ (p : Progress). IsNext from now p.lanes p.pending.items p.room p.lines taken nexts.NoMemory) (sym means.1) s)
+
 -- doing what the first line says, which has a newline
-pub next-line : (from now : Option (List ℕ)) (old new : Progress) (end : ℕ) (meaning : Result Meaning NoMemory) (next : Next) (taken : List Event)
+pub next-line : (from now : Option (List ℕ)) (old new : Progress) (end : ℕ) (meaning : Result Meaning NoMemory) (next : Option Next) (taken : List Event)
     → IsNewlineAt old.pending.items end → IfOk meaning (λ m. m ≡ meaning_of old.lanes (take end old.pending.items))
     → MeansNext old new (end + 1) meaning next
     → IsSoFar from now old.lanes old.pending.items old.room old.lines taken
-    → IsNext from now new.lanes new.pending.items new.room new.lines taken next
-next-line from now old new end (Ok (meanings.Act event)) next taken at reads means s =
-    let acted = so_far-line from now old.lanes old.pending.items (take end old.pending.items) (drop (end + 1) old.pending.items) old.room old.lines taken event s at.1 at.2 (sym reads) in
-    subst (λ (n : Next). IsNext from now new.lanes new.pending.items new.room new.lines taken n) (sym means.0)
-    (subst (λ (xs : List ℕ). IsSoFar from now new.lanes xs new.room new.lines (taken ++ event ∷ [])) (sym means.1)
-    (subst (λ (n : ℕ). IsSoFar from now new.lanes (drop (end + 1) old.pending.items) new.room n (taken ++ event ∷ [])) (sym means.2)
-    (subst (λ (n : ℕ). IsSoFar from now n (drop (end + 1) old.pending.items) new.room (old.lines + 1) (taken ++ event ∷ [])) (sym means.3)
-    (subst (λ (n : ℕ). IsSoFar from now old.lanes (drop (end + 1) old.pending.items) n (old.lines + 1) (taken ++ event ∷ [])) (sym means.4) acted))))
-next-line from now old new end (Ok meanings.Stop) next taken at reads means s =
-    subst (λ (n : Next). IsNext from now new.lanes new.pending.items new.room new.lines taken n) (sym means.0)
-    (subst (λ (p : Progress). IsNext from now p.lanes p.pending.items p.room p.lines taken nexts.Over) (sym means.1)
-    (over-stop from now old.lanes old.pending.items old.room old.lines taken s (first-newline old.lanes old.room end old.pending.items meanings.Stop at (sym reads))))
-next-line from now old new end (Ok meanings.Unlawful) next taken at reads means s =
-    subst (λ (n : Next). IsNext from now new.lanes new.pending.items new.room new.lines taken n) (sym means.0)
-    (subst (λ (p : Progress). IsNext from now p.lanes p.pending.items p.room p.lines taken (nexts.Line (old.lines + 1))) (sym means.1)
-    (line-unlawful from now old.lanes old.pending.items old.room old.lines taken s (first-newline old.lanes old.room end old.pending.items meanings.Unlawful at (sym reads))))
-next-line from now old new end (Err e) next taken at reads means s =
-    subst (λ (n : Next). IsNext from now new.lanes new.pending.items new.room new.lines taken n) (sym means.0)
-    (subst (λ (p : Progress). IsNext from now p.lanes p.pending.items p.room p.lines taken nexts.NoMemory) (sym means.1) s)
+    → IsStep from now new.lanes new.pending.items new.room new.lines taken next
+next-line from now old new end (Ok meaning) next taken at reads means s =
+    follow-first from now old new (end + 1) meaning next taken
+    (λ given on. so_far-line from now old.lanes old.pending.items (take end old.pending.items) (drop (end + 1) old.pending.items) old.room old.lines taken given meaning s at.1 at.2 (sym reads) on)
+    (first-newline old.lanes old.room end old.pending.items meaning at (sym reads)) means s
+next-line from now old new end (Err e) next taken at reads means s = follow-memory from now old new (end + 1) e next taken means s
 
 -- the same of the last line, which has none
-pub next-last : (from now : Option (List ℕ)) (old new : Progress) (meaning : Result Meaning NoMemory) (next : Next) (taken : List Event)
+pub next-last : (from now : Option (List ℕ)) (old new : Progress) (meaning : Result Meaning NoMemory) (next : Option Next) (taken : List Event)
     → HasNoNewline old.pending.items → old.room ≡ 0 → 0 < length old.pending.items → IfOk meaning (λ m. m ≡ meaning_of old.lanes old.pending.items)
     → MeansNext old new (length old.pending.items) meaning next
     → IsSoFar from now old.lanes old.pending.items old.room old.lines taken
-    → IsNext from now new.lanes new.pending.items new.room new.lines taken next
-next-last from now old new (Ok (meanings.Act event)) next taken none over some reads means s =
-    let acted = so_far-last from now old.lanes old.pending.items old.room old.lines taken event s none over some (sym reads) in
-    subst (λ (n : Next). IsNext from now new.lanes new.pending.items new.room new.lines taken n) (sym means.0)
-    (subst (λ (xs : List ℕ). IsSoFar from now new.lanes xs new.room new.lines (taken ++ event ∷ [])) (sym (means.1 ∙ drop-all old.pending.items))
-    (subst (λ (n : ℕ). IsSoFar from now new.lanes [] new.room n (taken ++ event ∷ [])) (sym means.2)
-    (subst (λ (n : ℕ). IsSoFar from now n [] new.room (old.lines + 1) (taken ++ event ∷ [])) (sym means.3)
-    (subst (λ (n : ℕ). IsSoFar from now old.lanes [] n (old.lines + 1) (taken ++ event ∷ [])) (sym means.4) acted))))
-next-last from now old new (Ok meanings.Stop) next taken none over some reads means s =
-    subst (λ (n : Next). IsNext from now new.lanes new.pending.items new.room new.lines taken n) (sym means.0)
-    (subst (λ (p : Progress). IsNext from now p.lanes p.pending.items p.room p.lines taken nexts.Over) (sym means.1)
-    (over-stop from now old.lanes old.pending.items old.room old.lines taken s (first-last old.lanes old.room old.pending.items meanings.Stop none over some (sym reads))))
-next-last from now old new (Ok meanings.Unlawful) next taken none over some reads means s =
-    subst (λ (n : Next). IsNext from now new.lanes new.pending.items new.room new.lines taken n) (sym means.0)
-    (subst (λ (p : Progress). IsNext from now p.lanes p.pending.items p.room p.lines taken (nexts.Line (old.lines + 1))) (sym means.1)
-    (line-unlawful from now old.lanes old.pending.items old.room old.lines taken s (first-last old.lanes old.room old.pending.items meanings.Unlawful none over some (sym reads))))
-next-last from now old new (Err e) next taken none over some reads means s =
-    subst (λ (n : Next). IsNext from now new.lanes new.pending.items new.room new.lines taken n) (sym means.0)
-    (subst (λ (p : Progress). IsNext from now p.lanes p.pending.items p.room p.lines taken nexts.NoMemory) (sym means.1) s)
+    → IsStep from now new.lanes new.pending.items new.room new.lines taken next
+next-last from now old new (Ok meaning) next taken none over some reads means s =
+    follow-first from now old new (length old.pending.items) meaning next taken
+    (λ given on. subst (λ (xs : List ℕ). IsSoFar from now old.lanes xs old.room (old.lines + 1) (taken ++ given)) (sym (drop-all old.pending.items))
+    (so_far-last from now old.lanes old.pending.items old.room old.lines taken given meaning s none over some (sym reads) on))
+    (first-last old.lanes old.room old.pending.items meaning none over some (sym reads)) means s
+next-last from now old new (Err e) next taken none over some reads means s = follow-memory from now old new (length old.pending.items) e next taken means s
 
 -- what a line says fails no read
-pub means-unread : (before now : ℕ) (old new : Progress) (count : ℕ) (meaning : Result Meaning NoMemory) (next : Next) → MeansNext old new count meaning next → NextCause before now next
-means-unread before now old new count (Ok (meanings.Act event)) next means = subst (NextCause before now) (sym means.0) tt
-means-unread before now old new count (Ok meanings.Stop) next means = subst (NextCause before now) (sym means.0) tt
-means-unread before now old new count (Ok meanings.Unlawful) next means = subst (NextCause before now) (sym means.0) tt
-means-unread before now old new count (Err e) next means = subst (NextCause before now) (sym means.0) tt
+pub means-unread : (before now : ℕ) (old new : Progress) (count : ℕ) (meaning : Result Meaning NoMemory) (next : Option Next) → MeansNext old new count meaning next → StepCause before now next
+means-unread before now old new count (Ok (meanings.Act event)) next means = subst (StepCause before now) (sym means.0) tt
+means-unread before now old new count (Ok meanings.Nothing) next means = subst (StepCause before now) (sym means.0) tt
+means-unread before now old new count (Ok meanings.Stop) next means = subst (StepCause before now) (sym means.0) tt
+means-unread before now old new count (Ok meanings.Unlawful) next means = subst (StepCause before now) (sym means.0) tt
+means-unread before now old new count (Err e) next means = subst (StepCause before now) (sym means.0) tt

@@ -3,6 +3,7 @@ use Rattle.std.proofs.Common.{◌≡◌, ℕ, ◌^◌, List, take, Option, Some,
 use Rattle.mj_base.specs.Rising.{Rose}
 use Rattle.mj_prog.specs.declared.status.Status.{Status}
 use Rattle.mj_prog.specs.declared.status.Status.TheVariants as statuses
+use Rattle.mj_prog.specs.declared.words.Options.{Options}
 use Rattle.mj_prog.specs.Script.{Ending, WithText, AtStop, AtUnlawful, IsLawful, script}
 use Rattle.mj_prog.specs.ReplayTable.{AnswersFor}
 use Rattle.mj_prog.specs.Statuses.{code_of}
@@ -74,17 +75,17 @@ answers-row lanes all left old new reads_before reads_now writes_before writes_n
 answers-row lanes all left old new reads_before reads_now writes_before writes_now statuses.Read row read written = absurd (read row.0)
 answers-row lanes all left old new reads_before reads_now writes_before writes_now statuses.Write row read written = absurd (written row.0)
 
-pub answers : (words : Option ℕ) (from left old new : Option (List ℕ)) (reads_before reads_now writes_before writes_now result : ℕ) (s : Status)
-    → IfSome words (λ lanes. IsRow lanes from left reads_before reads_now old new writes_before writes_now s) → result ≡ code_of s
-    → IfSome words (λ lanes. IfSome from (λ all. ¬ Rose reads_before reads_now → ¬ Rose writes_before writes_now → AnswersFor (script lanes (take (2 ^ 40) all)).ending result))
+pub answers : (words : Option Options) (from left old new : Option (List ℕ)) (reads_before reads_now writes_before writes_now result : ℕ) (s : Status)
+    → IfSome words (λ options. IsRow options.lanes from left reads_before reads_now old new writes_before writes_now s) → result ≡ code_of s
+    → IfSome words (λ options. IfSome from (λ all. ¬ Rose reads_before reads_now → ¬ Rose writes_before writes_now → AnswersFor (script options.lanes (take (2 ^ 40) all)).ending result))
 answers None from left old new reads_before reads_now writes_before writes_now result s rows e = tt
-answers (Some lanes) None left old new reads_before reads_now writes_before writes_now result s rows e = tt
-answers (Some lanes) (Some all) left old new reads_before reads_now writes_before writes_now result s rows e =
-    λ read written. subst (AnswersFor (script lanes (take (2 ^ 40) all)).ending) (sym e) (answers-row lanes all left old new reads_before reads_now writes_before writes_now s rows read written)
+answers (Some options) None left old new reads_before reads_now writes_before writes_now result s rows e = tt
+answers (Some options) (Some all) left old new reads_before reads_now writes_before writes_now result s rows e =
+    λ read written. subst (AnswersFor (script options.lanes (take (2 ^ 40) all)).ending) (sym e) (answers-row options.lanes all left old new reads_before reads_now writes_before writes_now s rows read written)
 
 -- the row of a status that is known
-pub row-of : (words : Option ℕ) (from left old new : Option (List ℕ)) (reads_before reads_now writes_before writes_now result : ℕ) (s t : Status)
-    → IfSome words (λ lanes. IsRow lanes from left reads_before reads_now old new writes_before writes_now s) → result ≡ code_of s → result ≡ code_of t
-    → IfSome words (λ lanes. IsRow lanes from left reads_before reads_now old new writes_before writes_now t)
+pub row-of : (words : Option Options) (from left old new : Option (List ℕ)) (reads_before reads_now writes_before writes_now result : ℕ) (s t : Status)
+    → IfSome words (λ options. IsRow options.lanes from left reads_before reads_now old new writes_before writes_now s) → result ≡ code_of s → result ≡ code_of t
+    → IfSome words (λ options. IsRow options.lanes from left reads_before reads_now old new writes_before writes_now t)
 row-of words from left old new reads_before reads_now writes_before writes_now result s t rows e f =
-    subst (λ (status : Status). IfSome words (λ lanes. IsRow lanes from left reads_before reads_now old new writes_before writes_now status)) (status-is s t result e f) rows
+    subst (λ (status : Status). IfSome words (λ options. IsRow options.lanes from left reads_before reads_now old new writes_before writes_now status)) (status-is s t result e f) rows

@@ -1,7 +1,9 @@
 pub mod Numbers
 pub mod Script
+pub mod SpelledLines
 pub mod Shown
 pub mod Words
+pub mod FoundValue
 pub mod ReplayTable
 pub mod ReadSoFar
 pub mod Running

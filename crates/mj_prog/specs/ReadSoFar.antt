@@ -1,5 +1,5 @@
 -- How far a script was read and acted on, as what is known of it while it runs.
-use Rattle.std.specs.Prelude.{ℕ, ◌≡◌, ◌+◌, ◌<◌, ◌≤◌, ◌^◌, ⊤, false, List, [], ◌∷◌, ◌++◌, length, take, drop, Option, Some, None, Result, Ok, Err}
+use Rattle.std.specs.Prelude.{ℕ, ◌≡◌, ◌+◌, ◌*◌, ◌<◌, ◌≤◌, ◌^◌, ⊤, false, List, [], ◌∷◌, ◌++◌, length, take, drop, Option, Some, None, Result, Ok, Err}
 use Rattle.mj_base.specs.declared.memory.NoMemory.{NoMemory}
 use Rattle.mj_prog.specs.declared.progress.Progress.{Progress}
 use Rattle.std.specs.Io.KnownBytes.{Consumes, Keeps, IsAtEnd}
@@ -7,7 +7,7 @@ use Rattle.mj_base.specs.declared.event.Event.{Event}
 use Rattle.mj_base.specs.declared.source.ReadAnswer.{ReadAnswer}
 use Rattle.mj_base.specs.declared.source.ReadAnswer.TheVariants as reads
 use Rattle.mj_base.specs.Rising.{Rose}
-use Rattle.mj_broker.specs.EventStep.{IsTakenBy}
+use Rattle.mj_base.specs.EventBounds.{IsTakenBy}
 use Rattle.mj_prog.specs.declared.front.Front.{Front}
 use Rattle.mj_prog.specs.declared.front.Front.TheVariants as fronts
 use Rattle.mj_prog.specs.declared.read.Filled.{Filled}
@@ -23,7 +23,7 @@ abbrev pub HasNoNewline : List ℕ → Type 0
 HasNoNewline [] = ⊤
 HasNoNewline (c ∷ cs) = (is_newline c ≡ false) × HasNoNewline cs
 
--- these bytes are whole lines, each an event, and whatever follows them follows these events
+-- these bytes are whole lines, each an event or nothing, and whatever follows them follows these events
 pub record IsActedOn (lanes : ℕ) (acted : List ℕ) (taken : List Event) (lines : ℕ) : Type 0 where
   pub events : (rest : List ℕ) → events_in lanes (lines_of (acted ++ rest)) ≡ taken ++ events_in lanes (lines_of rest)
   pub ending : (rest : List ℕ) → ending_in lanes 1 (lines_of (acted ++ rest)) ≡ ending_in lanes (lines + 1) (lines_of rest)
@@ -91,13 +91,18 @@ NextCause before now (nexts.Line number) = ⊤
 NextCause before now nexts.Failed = Rose before now
 NextCause before now nexts.NoMemory = ⊤
 
--- doing what a line says, which takes so many bytes with its newline: only an event takes it out
-abbrev pub MeansNext : Progress → Progress → ℕ → Result Meaning NoMemory → Next → Type 0
-MeansNext old new count (Ok (meanings.Act event)) next =
-    (next ≡ nexts.Act event) × (new.pending.items ≡ drop count old.pending.items) × (new.lines ≡ old.lines + 1) × (new.lanes ≡ old.lanes) × (new.room ≡ old.room)
-MeansNext old new count (Ok meanings.Stop) next = (next ≡ nexts.Over) × (new ≡ old)
-MeansNext old new count (Ok meanings.Unlawful) next = (next ≡ nexts.Line (old.lines + 1)) × (new ≡ old)
-MeansNext old new count (Err e) next = (next ≡ nexts.NoMemory) × (new ≡ old)
+-- a line was taken out, which takes so many bytes with its newline
+abbrev pub IsBehind : Progress → Progress → ℕ → Type 0
+IsBehind old new count =
+    (new.pending.items ≡ drop count old.pending.items) × (new.lines ≡ old.lines + 1) × (new.lanes ≡ old.lanes) × (new.room ≡ old.room)
+
+-- doing what a line says, which takes so many bytes with its newline: an event and a line without one take it out
+abbrev pub MeansNext : Progress → Progress → ℕ → Result Meaning NoMemory → Option Next → Type 0
+MeansNext old new count (Ok (meanings.Act event)) next = (next ≡ Some (nexts.Act event)) × IsBehind old new count
+MeansNext old new count (Ok meanings.Nothing) next = (next ≡ None) × IsBehind old new count
+MeansNext old new count (Ok meanings.Stop) next = (next ≡ Some nexts.Over) × (new ≡ old)
+MeansNext old new count (Ok meanings.Unlawful) next = (next ≡ Some (nexts.Line (old.lines + 1))) × (new ≡ old)
+MeansNext old new count (Err e) next = (next ≡ Some nexts.NoMemory) × (new ≡ old)
 
 -- an event is one that a broker with so many lanes takes
 abbrev pub NextIsTaken : ℕ → Next → Type 0
@@ -117,6 +122,7 @@ EventIsTaken lanes (Some event) = IsTakenBy lanes event
 
 abbrev pub MeaningIsTaken : ℕ → Meaning → Type 0
 MeaningIsTaken lanes (meanings.Act event) = IsTakenBy lanes event
+MeaningIsTaken lanes meanings.Nothing = ⊤
 MeaningIsTaken lanes meanings.Stop = ⊤
 MeaningIsTaken lanes meanings.Unlawful = ⊤
 
@@ -136,9 +142,9 @@ abbrev pub StepIsTaken : ℕ → Option Next → Type 0
 StepIsTaken lanes None = ⊤
 StepIsTaken lanes (Some next) = NextIsTaken lanes next
 
--- more was read only where more may be read, and then less may be read
+-- a step that goes on takes out pending bytes, or turns bytes that may be read into pending ones
 abbrev pub StepFewer : Progress → Progress → Option Next → Type 0
-StepFewer old new None = (new.room < old.room) × (new.room + length new.pending.items ≤ old.room + length old.pending.items)
+StepFewer old new None = (2 * new.room + length new.pending.items < 2 * old.room + length old.pending.items) × (new.room + length new.pending.items ≤ old.room + length old.pending.items)
 StepFewer old new (Some next) = new.room + length new.pending.items + next_cost next ≤ old.room + length old.pending.items
 
 -- what a read's answer says of the buffer

@@ -4,8 +4,8 @@ use Rattle.std.specs.Io.KnownBytes.{Appends, Consumes}
 use Rattle.mj_base.specs.Rising.{Rose}
 use Rattle.mj_base.specs.Writing.{AppendsFront}
 use Rattle.mj_base.specs.StandardLimits.{standard_limits}
-use Rattle.mj_broker.specs.MachineState.{start}
-use Rattle.mj_broker.specs.MachineRun.{run_outs}
+use Rattle.mj_machine.specs.MachineState.{start}
+use Rattle.mj_machine.specs.MachineRun.{run_outs}
 use Rattle.mj_prog.specs.Script.{Ending, WithText, AtStop, AtUnlawful, script, IsLawful, ended_part}
 use Rattle.mj_prog.specs.Shown.{shown, done_line, fault_line, fault_read}
 

@@ -1,5 +1,5 @@
 -- How a run of the broker over a script goes.
-use Rattle.std.specs.Prelude.{ℕ, ◌≡◌, ◌+◌, ⊤, Bool, false, List, length, Option, Some, None}
+use Rattle.std.specs.Prelude.{ℕ, ◌≡◌, ◌+◌, ◌≤◌, ⊤, Bool, false, List, length, Option, Some, None}
 use Rattle.std.specs.Io.KnownBytes.{Appends, Consumes}
 use Rattle.mj_base.specs.declared.event.Event.{Event}
 use Rattle.mj_base.specs.declared.sink.WriteAnswer.{WriteAnswer}
@@ -8,9 +8,9 @@ use Rattle.mj_base.specs.Rising.{Rose}
 use Rattle.mj_base.specs.Writing.{AppendsFront}
 use Rattle.mj_base.specs.StandardLimits.{standard_limits}
 use Rattle.mj_broker.specs.declared.broker.Broker.{Broker}
-use Rattle.mj_broker.specs.MachineState.{Machine, start}
-use Rattle.mj_broker.specs.EventStep.{state_after, outs_of}
-use Rattle.mj_broker.specs.MachineRun.{run_state, run_outs}
+use Rattle.mj_machine.specs.MachineState.{Machine, start}
+use Rattle.mj_machine.specs.EventStep.{state_after, outs_of}
+use Rattle.mj_machine.specs.MachineRun.{run_state, run_outs}
 use Rattle.mj_broker.specs.BrokerState.{IsAt}
 use Rattle.mj_prog.specs.declared.turn.Halt.{Halt}
 use Rattle.mj_prog.specs.declared.turn.Halt.TheVariants as halts
@@ -82,6 +82,16 @@ abbrev pub DoneFresh : Bool → WriteAnswer → Type 0
 DoneFresh spent writes.Done = spent ≡ false
 DoneFresh spent writes.NoMemory = ⊤
 DoneFresh spent writes.Failed = ⊤
+
+-- a broker that took its event has opened one connection more at most
+abbrev pub DoneNext : ℕ → ℕ → WriteAnswer → Type 0
+DoneNext before now writes.Done = now ≤ before + 1
+DoneNext before now writes.NoMemory = ⊤
+DoneNext before now writes.Failed = ⊤
+
+abbrev pub TurnNext : ℕ → ℕ → Option Halt → Type 0
+TurnNext before now None = now ≤ before + 1
+TurnNext before now (Some halt) = ⊤
 
 abbrev pub TurnFresh : Bool → Option Halt → Type 0
 TurnFresh spent None = spent ≡ false

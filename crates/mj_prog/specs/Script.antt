@@ -1,13 +1,13 @@
--- Scripts: a text of lines, each of which is an event, `stop`, or unlawful.
-use Rattle.std.specs.Prelude.{ℕ, ◌+◌, ◌%◌, ◌<◌, ◌≤◌, ◌≡◌, ◌⊎◌, ◌↔◌, IsSome, ⊤, Bool, nat_lt, nat_le, nat_eq, ◌&&◌, List, [], ◌∷◌, length, take, drop, Option, Some, None, Result, Ok, Err, if◌then◌else◌, codes}
-use Rattle.std.specs.List.{position, starts_with, AllPass}
+-- Scripts: a text of lines, each of which is an event, nothing, `stop`, or unlawful.
+use Rattle.std.specs.Prelude.{ℕ, ◌+◌, ◌%◌, ◌<◌, ◌≤◌, ◌≡◌, ◌⊎◌, ◌↔◌, IsSome, ⊤, Bool, true, nat_lt, nat_le, nat_eq, ◌&&◌, List, [], ◌∷◌, length, take, drop, Option, Some, None, Result, Ok, Err, if◌then◌else◌, codes}
+use Rattle.std.specs.List.{position, AllPass}
 use Rattle.std.specs.Str.{bytes_eq}
 use Rattle.hex.specs.Hex.{decode_of, encode_lower, encode_upper, is_hex_digit, IsBytes}
 use Rattle.hex.specs.declared.error.FromHexError.{FromHexError}
 use Rattle.mj_base.specs.declared.event.Event.{Event}
 use Rattle.mj_base.specs.declared.event.Event.TheVariants as events
 use Rattle.mj_prog.specs.declared.meaning.Meaning.{Meaning}
-use Rattle.mj_prog.specs.declared.meaning.Meaning.TheVariants.{Act, Stop, Unlawful}
+use Rattle.mj_prog.specs.declared.meaning.Meaning.TheVariants.{Act, Nothing, Stop, Unlawful}
 use Rattle.mj_prog.specs.Numbers.{number_of}
 
 abbrev pub is_newline : ℕ → Bool
@@ -56,20 +56,17 @@ PiecesAreHex digits =
     (IsSome (piece_of digits) ↔ ((0 < length digits) × (length digits ≤ 131072) × (length digits % 2 ≡ 0) × AllPass is_hex_digit digits))
     × ((bytes : List ℕ) → 0 < length bytes → length bytes ≤ 65536 → IsBytes bytes → (digits ≡ encode_lower bytes) ⊎ (digits ≡ encode_upper bytes) → piece_of digits ≡ Some bytes)
 
--- what stands behind these bytes, where the text starts with them
-abbrev pub behind : List ℕ → List ℕ → Option (List ℕ)
-behind front text = if starts_with nat_eq text front then Some (drop (length front) text) else None
+-- `open L`, `sent L` and `close L`
+abbrev pub on_lane : (ℕ → Event) → Option ℕ → Option Event
+on_lane event None = None
+on_lane event (Some lane) = Some (event lane)
 
-abbrev pub open_on : Option ℕ → Option Event
-open_on None = None
-open_on (Some lane) = Some (events.Open lane)
-
+-- `bytes L HEX`: the lane stands before the next space, and the piece behind it
 abbrev pub bytes_on : Option ℕ → Option (List ℕ) → Option Event
 bytes_on None piece = None
 bytes_on (Some lane) None = None
 bytes_on (Some lane) (Some piece) = Some (events.Bytes lane piece)
 
--- the lane before the first space, and the piece behind it
 abbrev pub bytes_at : ℕ → List ℕ → Option ℕ → Option Event
 bytes_at lanes text None = None
 bytes_at lanes text (Some space) = bytes_on (lane_of lanes (take space text)) (piece_of (drop (space + 1) text))
@@ -77,17 +74,33 @@ bytes_at lanes text (Some space) = bytes_on (lane_of lanes (take space text)) (p
 abbrev pub bytes_of : ℕ → List ℕ → Option Event
 bytes_of lanes text = bytes_at lanes text (position is_space text)
 
-abbrev pub bytes_behind : ℕ → Option (List ℕ) → Option Event
-bytes_behind lanes None = None
-bytes_behind lanes (Some text) = bytes_of lanes text
+-- `tick N`, N at most 10^15 ms
+abbrev pub tick_at : Option ℕ → Option Event
+tick_at None = None
+tick_at (Some ms) = if nat_le ms 1000000000000000 then Some (events.Tick ms) else None
 
-abbrev pub event_behind : ℕ → Option (List ℕ) → Option (List ℕ) → Option Event
-event_behind lanes (Some text) other = open_on (lane_of lanes text)
-event_behind lanes None other = bytes_behind lanes other
+-- the event that a word names, with the text behind the space after it
+abbrev pub event_named : ℕ → List ℕ → List ℕ → Option Event
+event_named lanes word text =
+    if bytes_eq word (codes "open") then on_lane events.Open (lane_of lanes text)
+    else if bytes_eq word (codes "bytes") then bytes_of lanes text
+    else if bytes_eq word (codes "sent") then on_lane events.Sent (lane_of lanes text)
+    else if bytes_eq word (codes "close") then on_lane events.Close (lane_of lanes text)
+    else if bytes_eq word (codes "tick") then tick_at (number_of text)
+    else None
 
--- `open L` and `bytes L HEX`
+-- the line's first word ends at its first space
+abbrev pub event_at : ℕ → List ℕ → Option ℕ → Option Event
+event_at lanes line None = None
+event_at lanes line (Some space) = event_named lanes (take space line) (drop (space + 1) line)
+
 abbrev pub event_of : ℕ → List ℕ → Option Event
-event_of lanes line = event_behind lanes (behind (codes "open ") line) (behind (codes "bytes ") line)
+event_of lanes line = event_at lanes line (position is_space line)
+
+-- an empty line, or a comment, which starts with `#`
+abbrev pub is_silent : List ℕ → Bool
+is_silent [] = true
+is_silent (c ∷ cs) = nat_eq c 35
 
 abbrev pub acting : Option Event → Meaning
 acting None = Unlawful
@@ -97,6 +110,7 @@ acting (Some event) = Act event
 abbrev pub meaning_of : ℕ → List ℕ → Meaning
 meaning_of lanes line =
     if nat_lt 131081 (length line) then Unlawful
+    else if is_silent line then Nothing
     else if bytes_eq line (codes "stop") then Stop
     else acting (event_of lanes line)
 
@@ -108,6 +122,7 @@ pub data Ending : Type 0 where
 
 abbrev pub events_on : Meaning → List Event → List Event
 events_on (Act event) later = event ∷ later
+events_on Nothing later = later
 events_on Stop later = []
 events_on Unlawful later = []
 
@@ -117,6 +132,7 @@ events_in lanes (line ∷ lines) = events_on (meaning_of lanes line) (events_in 
 
 abbrev pub ending_on : Meaning → ℕ → Ending → Ending
 ending_on (Act event) number later = later
+ending_on Nothing number later = later
 ending_on Stop number later = AtStop number
 ending_on Unlawful number later = AtUnlawful number
 

@@ -18,7 +18,6 @@ reason_word reasons.TooMany = codes "too-many"
 reason_word reasons.TooLong = codes "too-long"
 reason_word reasons.Slow = codes "slow"
 reason_word reasons.QueueFull = codes "queue-full"
-reason_word reasons.NotBuilt = codes "not-built"
 
 abbrev pub put_line : ℕ → List ℕ → List ℕ
 put_line lane digits = codes "put " ++ (decimal lane ++ (codes " " ++ (digits ++ codes "\n")))

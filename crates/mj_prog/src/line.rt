@@ -1,6 +1,9 @@
-ghost use Rattle.std.specs.Prelude.{◌≡◌, ◌<◌, IfOk, IfSome, length};
+ghost use Rattle.std.specs.Prelude.{◌≡◌, ◌<◌, ℕ, IfOk, IfSome, length};
 ghost use Rattle.std.specs.List.{position};
-ghost use Rattle.mj_prog.specs.Script.{is_space, meaning_of, event_of, open_on, bytes_of, bytes_at, bytes_on, lane_of, piece_of, decoded, PiecesAreHex};
+ghost use Rattle.mj_prog.specs.Script.{is_space, meaning_of, event_at, event_named, on_lane, bytes_at, bytes_on, tick_at, lane_of, piece_of, decoded, PiecesAreHex};
+ghost use Rattle.mj_prog.specs.Script;
+ghost use Rattle.mj_prog.specs.Numbers.{number_of};
+ghost use Rattle.mj_prog.specs.SpelledLines.{EventsAreSpelled};
 ghost use Rattle.hex.specs.Hex.{decode_of};
 ghost use Rattle.mj_prog.specs.ReadSoFar.{MeaningIsTaken, EventIsTaken, IsPiece};
 
@@ -16,38 +19,87 @@ pub const LINE_BYTES: usize = 131_081;
 /// A piece has at most so many hex digits.
 const PIECE_DIGITS: usize = 131_072;
 
+/// No tick is later than this many milliseconds.
+const LAST_TICK: u64 = 1_000_000_000_000_000;
+
 /// Reads one line of a script, without its newline.
 pub fn read_line(alloc: Global, lanes: u32, line: &[u8]) -> Result<Meaning, NoMemory>
     ensures exact { IfOk result (λ meaning. meaning ≡ meaning_of lanes line.now) }
     ensures taken { IfOk result (MeaningIsTaken lanes) }
+    ensures spelled { EventsAreSpelled lanes line.now }
 {
     if line.len() > LINE_BYTES {
         return Ok(Meaning::Unlawful);
     }
+    if is_silent(line) {
+        return Ok(Meaning::Nothing);
+    }
     if line == b"stop".as_slice() {
         return Ok(Meaning::Stop);
     }
-    match read_event(alloc, lanes, line)? {
+    match read_event(alloc, lanes, line, find_space(line))? {
         Some(event) => Ok(Meaning::Act(event)),
         None => Ok(Meaning::Unlawful),
     }
 }
 
-fn read_event(alloc: Global, lanes: u32, line: &[u8]) -> Result<Option<Event>, NoMemory>
-    ensures exact { IfOk result (λ event. event ≡ event_of lanes line.now) }
+/// Whether a line is empty or a comment.
+fn is_silent(line: &[u8]) -> bool
+    ensures { result ≡ Script.is_silent line.now }
+{
+    match line {
+        [] => true,
+        [first, ..] => *first == b'#',
+    }
+}
+
+/// Reads an event, whose first word ends at this space.
+fn read_event(
+    alloc: Global,
+    lanes: u32,
+    line: &[u8],
+    space: Option<usize>,
+) -> Result<Option<Event>, NoMemory>
+    requires { IfSome space (λ place. place < length line.now) }
+    ensures exact { IfOk result (λ event. event ≡ event_at lanes line.now space) }
     ensures taken { IfOk result (EventIsTaken lanes) }
 {
-    if let Some(rest) = line.strip_prefix(b"open ".as_slice()) {
-        return Ok(read_open(lanes, rest));
+    match space {
+        Some(space) => read_event_named(alloc, lanes, &line[..space], &line[space + 1..]),
+        None => Ok(None),
     }
-    if let Some(rest) = line.strip_prefix(b"bytes ".as_slice()) {
-        return read_bytes(alloc, lanes, rest);
+}
+
+/// Reads the event that this word names, with the text behind the space after it.
+fn read_event_named(
+    alloc: Global,
+    lanes: u32,
+    word: &[u8],
+    text: &[u8],
+) -> Result<Option<Event>, NoMemory>
+    ensures exact { IfOk result (λ event. event ≡ event_named lanes word.now text.now) }
+    ensures taken { IfOk result (EventIsTaken lanes) }
+{
+    if word == b"open".as_slice() {
+        return Ok(read_open(lanes, text));
+    }
+    if word == b"bytes".as_slice() {
+        return read_bytes(alloc, lanes, text, find_space(text));
+    }
+    if word == b"sent".as_slice() {
+        return Ok(read_sent(lanes, text));
+    }
+    if word == b"close".as_slice() {
+        return Ok(read_close(lanes, text));
+    }
+    if word == b"tick".as_slice() {
+        return Ok(read_tick(text));
     }
     Ok(None)
 }
 
 fn read_open(lanes: u32, text: &[u8]) -> Option<Event>
-    ensures exact { result ≡ open_on (lane_of lanes text.now) }
+    ensures exact { result ≡ on_lane Event.Open (lane_of lanes text.now) }
     ensures taken { EventIsTaken lanes result }
 {
     match read_lane(lanes, text) {
@@ -56,11 +108,34 @@ fn read_open(lanes: u32, text: &[u8]) -> Option<Event>
     }
 }
 
-fn read_bytes(alloc: Global, lanes: u32, text: &[u8]) -> Result<Option<Event>, NoMemory>
-    ensures exact { IfOk result (λ event. event ≡ bytes_of lanes text.now) }
-    ensures taken { IfOk result (EventIsTaken lanes) }
+fn read_sent(lanes: u32, text: &[u8]) -> Option<Event>
+    ensures exact { result ≡ on_lane Event.Sent (lane_of lanes text.now) }
+    ensures taken { EventIsTaken lanes result }
 {
-    read_bytes_at(alloc, lanes, text, find_space(text))
+    match read_lane(lanes, text) {
+        Some(lane) => Some(Event::Sent(lane)),
+        None => None,
+    }
+}
+
+fn read_close(lanes: u32, text: &[u8]) -> Option<Event>
+    ensures exact { result ≡ on_lane Event.Close (lane_of lanes text.now) }
+    ensures taken { EventIsTaken lanes result }
+{
+    match read_lane(lanes, text) {
+        Some(lane) => Some(Event::Close(lane)),
+        None => None,
+    }
+}
+
+fn read_tick(text: &[u8]) -> Option<Event>
+    ensures exact { result ≡ tick_at (number_of text.now) }
+    ensures taken { (lanes : ℕ) → EventIsTaken lanes result }
+{
+    match read_number(text) {
+        Some(ms) if ms <= LAST_TICK => Some(Event::Tick(ms)),
+        _ => None,
+    }
 }
 
 /// The place of the first space.
@@ -71,7 +146,8 @@ fn find_space(text: &[u8]) -> Option<usize>
     text.iter().position(|c| *c == b' ')
 }
 
-fn read_bytes_at(
+/// Reads a lane and, behind this space, a piece.
+fn read_bytes(
     alloc: Global,
     lanes: u32,
     text: &[u8],

@@ -11,6 +11,8 @@ mod number;
 mod print;
 mod progress;
 mod read;
+#[cfg(test)]
+mod routed_runs;
 mod run;
 mod status;
 #[cfg(test)]

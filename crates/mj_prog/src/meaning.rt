@@ -5,6 +5,8 @@ use mj_base::Event;
 pub enum Meaning {
     /// This event comes.
     Act(Event),
+    /// Nothing: the line is empty or a comment.
+    Nothing,
     /// Nothing comes any more.
     Stop,
     /// The line is no line of a script.

@@ -40,7 +40,7 @@ pub fn read_next<S: Source>(alloc: Global, progress: &mut Progress, src: &mut S)
     }
 }
 
-/// Acts on the line at the front, or reads more where it isn't whole; None says that more was read.
+/// Acts on the line at the front, or reads more where it isn't whole; None says that the script goes on.
 fn step<S: Source>(alloc: Global, progress: &mut Progress, src: &mut S) -> Option<Next>
     ensures stands { (from : Option (List ℕ)) (taken : List Event) → IsSoFar from (S.left src.old) progress.old.lanes progress.old.pending.items progress.old.room progress.old.lines taken → IsStep from (S.left src.new) progress.new.lanes progress.new.pending.items progress.new.room progress.new.lines taken result }
     ensures lanes { progress.new.lanes ≡ progress.old.lanes }
@@ -50,8 +50,8 @@ fn step<S: Source>(alloc: Global, progress: &mut Progress, src: &mut S) -> Optio
     ensures fewer { StepFewer progress.old progress.new result }
 {
     match find_front(progress) {
-        Front::Line(end) => Some(act_on_line(alloc, progress, end)),
-        Front::Last => Some(act_on_last(alloc, progress)),
+        Front::Line(end) => act_on_line(alloc, progress, end),
+        Front::Last => act_on_last(alloc, progress),
         Front::TooLong => Some(Next::Line(progress.lines + 1)),
         Front::Part => read_more(progress, src),
         Front::Over => Some(Next::Over),

@@ -88,7 +88,6 @@ fn reason_word(reason: Reason) -> &'static str
         Reason::TooLong => "too-long",
         Reason::Slow => "slow",
         Reason::QueueFull => "queue-full",
-        Reason::NotBuilt => "not-built",
     }
 }
 

@@ -26,6 +26,7 @@ pub fn run_script<S: Source, K: Sink>(
 ) -> Run
     requires lanes { progress.old.lanes ≤ broker.old.limits.lanes }
     requires fresh { broker.old.spent ≡ false }
+    requires first { broker.old.state.next ≡ 1 }
     ensures runs { IsRunning (S.left src.old) (S.left src.old) progress.old.lanes progress.old.pending.items progress.old.room progress.old.lines broker.old (K.written out.old) (K.written out.old) 0 → IsHalted (S.left src.old) (S.left src.new) progress.old.lanes (K.written out.old) (K.written out.new) result.events result.halt }
     ensures reads_later { S.faults src.old ≤ S.faults src.new }
     ensures writes_later { K.faults out.old ≤ K.faults out.new }

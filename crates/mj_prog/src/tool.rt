@@ -1,10 +1,15 @@
-ghost use Rattle.std.specs.Prelude.{◌≡◌, ◌↔◌, ◌^◌, ◌≤◌, [], Some, None, IfSome, map, take, string_bytes};
+ghost use Rattle.std.specs.Prelude.{ℕ, List, ◌≡◌, ◌↔◌, ◌^◌, ◌≤◌, [], Some, None, IfSome, map, take, string_bytes};
 ghost use Rattle.std.specs.Io.KnownBytes.{Keeps};
 ghost use Rattle.mj_base.specs.Rising.{Rose};
-ghost use Rattle.mj_prog.specs.Words.{lanes_in};
+ghost use Rattle.mj_prog.specs.Words.{options_in};
 ghost use Rattle.mj_prog.specs.Script.{script};
 ghost use Rattle.mj_prog.specs.Shown.{fault_words};
-ghost use Rattle.mj_prog.specs.ReplayTable.{IsDone, IsRefused, IsCutOff, IsUnread, AppendsLine, AnswersFor};
+ghost use Rattle.mj_base.specs.StandardLimits.{standard_limits};
+ghost use Rattle.mj_laws.specs.NobodyWaits.{NobodyWaits};
+ghost use Rattle.mj_laws.specs.Replies.{RepliesAreOwned};
+ghost use Rattle.mj_laws.specs.Requests.{OneRequestAtATime};
+ghost use Rattle.mj_laws.specs.Soundness.{StaysSound};
+ghost use Rattle.mj_prog.specs.ReplayTable.{IsInput, IsDone, IsRefused, IsCutOff, IsUnread, AppendsLine, AnswersFor};
 ghost use Rattle.mj_prog.specs.Statuses.{IsStatus};
 ghost use Rattle.mj_prog.specs.StatusRows.{IsRow};
 ghost use Rattle.mj_prog.specs.declared.status.Status;
@@ -13,7 +18,7 @@ use super::finish::{complain, finish};
 use super::progress::Progress;
 use super::run::run_script;
 use super::status::{Status, code};
-use super::words::lanes_in_words;
+use super::words::read_words;
 use mj_base::{Limits, Sink, Source};
 use mj_broker::Broker;
 use std::alloc::Global;
@@ -21,29 +26,35 @@ use std::alloc::Global;
 /// Bytes of a script that are read at most.
 const SCRIPT_BYTES: u64 = 1 << 40;
 
-/// Does what the words say, which are those behind the program's name: `- replay` reads a script from the source
-/// and prints what the broker does. The answer is the status that the program exits with.
+/// Does what the words say, which are those behind the program's name: `- replay`, with its options,
+/// reads a script from the source and prints what the broker does. The answer is the status that the program exits with.
 pub fn tool<S: Source, K: Sink>(alloc: Global, words: &[String], src: &mut S, out: &mut K) -> u8
     ensures statuses { IsStatus result }
-    ensures words { (result ≡ 1) ↔ (lanes_in (map string_bytes words.now) ≡ None) }
+    ensures words { (result ≡ 1) ↔ (options_in (map string_bytes words.now) ≡ None) }
     ensures refused_words { result ≡ 1 → Keeps (S.left src.old) (S.left src.new) × AppendsLine (K.written out.old) (K.written out.new) (K.faults out.old) (K.faults out.new) [] fault_words }
-    ensures done { result ≡ 0 → IfSome (lanes_in (map string_bytes words.now)) (λ lanes. IsDone lanes (S.left src.old) (K.written out.old) (K.written out.new)) }
-    ensures unlawful { result ≡ 2 → IfSome (lanes_in (map string_bytes words.now)) (λ lanes. IsRefused lanes (S.left src.old) (K.written out.old) (K.written out.new) (K.faults out.old) (K.faults out.new)) }
-    ensures memory { result ≡ 4 → IfSome (lanes_in (map string_bytes words.now)) (λ lanes. IsCutOff lanes (S.left src.old) (K.written out.old) (K.written out.new)) }
-    ensures read { result ≡ 6 → IfSome (lanes_in (map string_bytes words.now)) (λ lanes. Rose (S.faults src.old) (S.faults src.new) × IsUnread lanes (S.left src.old) (S.left src.new) (K.written out.old) (K.written out.new) (K.faults out.old) (K.faults out.new)) }
-    ensures write { result ≡ 7 → IfSome (lanes_in (map string_bytes words.now)) (λ lanes. Rose (K.faults out.old) (K.faults out.new) × IsCutOff lanes (S.left src.old) (K.written out.old) (K.written out.new)) }
-    ensures complete { IfSome (lanes_in (map string_bytes words.now)) (λ lanes. IfSome (S.left src.old) (λ all. ¬ Rose (S.faults src.old) (S.faults src.new) → ¬ Rose (K.faults out.old) (K.faults out.new) → AnswersFor (script lanes (take (2 ^ 40) all)).ending result)) }
+    ensures done { result ≡ 0 → IfSome (options_in (map string_bytes words.now)) (λ options. IsDone options.lanes (S.left src.old) (K.written out.old) (K.written out.new)) }
+    ensures unlawful { result ≡ 2 → IfSome (options_in (map string_bytes words.now)) (λ options. IsRefused options.lanes (S.left src.old) (K.written out.old) (K.written out.new) (K.faults out.old) (K.faults out.new)) }
+    ensures memory { result ≡ 4 → IfSome (options_in (map string_bytes words.now)) (λ options. IsCutOff options.lanes (S.left src.old) (K.written out.old) (K.written out.new)) }
+    ensures read { result ≡ 6 → IfSome (options_in (map string_bytes words.now)) (λ options. Rose (S.faults src.old) (S.faults src.new) × IsUnread options.lanes (S.left src.old) (S.left src.new) (K.written out.old) (K.written out.new) (K.faults out.old) (K.faults out.new)) }
+    ensures write { result ≡ 7 → IfSome (options_in (map string_bytes words.now)) (λ options. Rose (K.faults out.old) (K.faults out.new) × IsCutOff options.lanes (S.left src.old) (K.written out.old) (K.written out.new)) }
+    ensures complete { IfSome (options_in (map string_bytes words.now)) (λ options. IfSome (S.left src.old) (λ all. ¬ Rose (S.faults src.old) (S.faults src.new) → ¬ Rose (K.faults out.old) (K.faults out.new) → AnswersFor (script options.lanes (take (2 ^ 40) all)).ending result)) }
+
+    // What users rely on, in each step of the machine's run over the script's events.
+    ensures replies { IfSome (options_in (map string_bytes words.now)) (λ options. (text : List ℕ) → IsInput (S.left src.old) text → RepliesAreOwned standard_limits (script options.lanes text).events) }
+    ensures requests { IfSome (options_in (map string_bytes words.now)) (λ options. (text : List ℕ) → IsInput (S.left src.old) text → OneRequestAtATime standard_limits (script options.lanes text).events) }
+    ensures waiting { IfSome (options_in (map string_bytes words.now)) (λ options. (text : List ℕ) → IsInput (S.left src.old) text → NobodyWaits standard_limits (script options.lanes text).events) }
+    ensures sound { IfSome (options_in (map string_bytes words.now)) (λ options. (text : List ℕ) → IsInput (S.left src.old) text → StaysSound standard_limits (script options.lanes text).events) }
 {
     code(run_tool(alloc, words, src, out))
 }
 
 fn run_tool<S: Source, K: Sink>(alloc: Global, words: &[String], src: &mut S, out: &mut K) -> Status
-    ensures words { (result ≡ Status.Words) ↔ (lanes_in (map string_bytes words.now) ≡ None) }
+    ensures words { (result ≡ Status.Words) ↔ (options_in (map string_bytes words.now) ≡ None) }
     ensures refused_words { result ≡ Status.Words → Keeps (S.left src.old) (S.left src.new) × AppendsLine (K.written out.old) (K.written out.new) (K.faults out.old) (K.faults out.new) [] fault_words }
-    ensures rows { IfSome (lanes_in (map string_bytes words.now)) (λ lanes. IsRow lanes (S.left src.old) (S.left src.new) (S.faults src.old) (S.faults src.new) (K.written out.old) (K.written out.new) (K.faults out.old) (K.faults out.new) result) }
+    ensures rows { IfSome (options_in (map string_bytes words.now)) (λ options. IsRow options.lanes (S.left src.old) (S.left src.new) (S.faults src.old) (S.faults src.new) (K.written out.old) (K.written out.new) (K.faults out.old) (K.faults out.new) result) }
 {
-    match lanes_in_words(words) {
-        Some(lanes) => replay(alloc, lanes, src, out),
+    match read_words(words) {
+        Some(options) => replay(alloc, options.lanes, src, out),
         None => {
             complain(b"fault words\n", out);
             Status::Words

@@ -1,10 +1,10 @@
-ghost use Rattle.std.specs.Prelude.{◌≡◌, ◌+◌, ◌≤◌, ℕ, List, Option, false, length};
+ghost use Rattle.std.specs.Prelude.{◌≡◌, ◌+◌, ◌≤◌, ◌<◌, ◌^◌, ℕ, List, Option, false, length};
 ghost use Rattle.mj_base.specs.Writing.{WriteCause};
 ghost use Rattle.mj_base.specs.StandardLimits.{standard_limits};
-ghost use Rattle.mj_broker.specs.MachineState.{Machine};
-ghost use Rattle.mj_broker.specs.EventStep.{IsTakenBy};
+ghost use Rattle.mj_machine.specs.MachineState.{Machine};
+ghost use Rattle.mj_base.specs.EventBounds.{IsTakenBy};
 ghost use Rattle.mj_broker.specs.BrokerState.{IsAt};
-ghost use Rattle.mj_prog.specs.Running.{Takes, IsRunning, IsTurn, TurnCause, TurnFresh, DoneFresh, halt_after, turn_cost};
+ghost use Rattle.mj_prog.specs.Running.{Takes, IsRunning, IsTurn, TurnCause, TurnFresh, TurnNext, DoneFresh, DoneNext, halt_after, turn_cost};
 
 use super::next::{Next, read_next};
 use super::print::print_outs;
@@ -38,6 +38,7 @@ pub fn turn<S: Source, K: Sink>(
 ) -> Option<Halt>
     requires lanes { progress.old.lanes ≤ broker.old.limits.lanes }
     requires fresh { broker.old.spent ≡ false }
+    requires few { broker.old.state.next < 2 ^ 63 }
     ensures runs { (from written : Option (List ℕ)) (events : ℕ) → IsRunning from (S.left src.old) progress.old.lanes progress.old.pending.items progress.old.room progress.old.lines broker.old written (K.written out.old) events → IsTurn from (S.left src.new) progress.new.lanes progress.new.pending.items progress.new.room progress.new.lines broker.new written (K.written out.new) events result }
     ensures reads_later { S.faults src.old ≤ S.faults src.new }
     ensures writes_later { K.faults out.old ≤ K.faults out.new }
@@ -45,6 +46,7 @@ pub fn turn<S: Source, K: Sink>(
     ensures lanes { progress.new.lanes ≡ progress.old.lanes }
     ensures limits { broker.new.limits ≡ broker.old.limits }
     ensures fresh { TurnFresh broker.new.spent result }
+    ensures next { TurnNext broker.old.state.next broker.new.state.next result }
     ensures fewer { progress.new.room + length progress.new.pending.items + turn_cost result ≤ progress.old.room + length progress.old.pending.items }
 {
     match read_next(alloc, progress, src) {
@@ -70,11 +72,13 @@ fn halt_of(answer: WriteAnswer) -> Option<Halt>
 fn take_event<K: Sink>(alloc: Global, broker: &mut Broker, event: Event, out: &mut K) -> WriteAnswer
     requires taken { IsTakenBy broker.old.limits.lanes event }
     requires fresh { broker.old.spent ≡ false }
+    requires few { broker.old.state.next < 2 ^ 63 }
     ensures takes { (state : Machine) → IsAt standard_limits broker.old state → Takes broker.new (K.written out.old) (K.written out.new) event result state }
     ensures later { K.faults out.old ≤ K.faults out.new }
     ensures cause { WriteCause (K.faults out.old) (K.faults out.new) result }
     ensures limits { broker.new.limits ≡ broker.old.limits }
     ensures fresh { DoneFresh broker.new.spent result }
+    ensures next { DoneNext broker.old.state.next broker.new.state.next result }
 {
     let mut outs = Vec::new(alloc);
     match broker.event(alloc, event, &mut outs) {

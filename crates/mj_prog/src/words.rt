@@ -1,13 +1,134 @@
-ghost use Rattle.std.specs.Prelude.{◌≡◌, map, string_bytes};
-ghost use Rattle.mj_prog.specs.Words.{lanes_in};
+ghost use Rattle.std.specs.Prelude.{◌≡◌, ◌≤◌, [], IfSome, map, string_bytes, codes, replicate};
+ghost use Rattle.mj_prog.specs.Words;
+ghost use Rattle.mj_prog.specs.Words.{options_in, options_of, values_of, once_or, lanes_of, seed_of};
+ghost use Rattle.mj_prog.specs.FoundValue.{IsFound, found_after};
 
-/// The number of lanes of a replay; None where the words aren't of this program. The words are those behind
-/// the program's name.
-pub fn lanes_in_words(words: &[String]) -> Option<u32>
-    ensures { result ≡ lanes_in (map string_bytes words.now) }
+use super::number::read_number;
+use hex::FromHex;
+
+/// The options of a replay.
+#[derive(Clone, Copy, Debug, PartialEq, Eq)]
+pub struct Options {
+    /// Lanes that a script may name, 1 to 64.
+    pub lanes: u32,
+    /// What ticket ids are made from. Nothing uses it without a store.
+    pub seed: [u8; 32],
+}
+
+/// What the search for the value of an option gives.
+#[derive(Clone, Copy, Debug, PartialEq, Eq)]
+enum Found {
+    /// The option isn't given.
+    Nowhere,
+    /// It stands at this place among the words, from 0.
+    At(usize),
+    /// The option is given more than once.
+    Twice,
+}
+
+/// The options of a replay; None where the words aren't of this program. The words are those behind the
+/// program's name.
+pub fn read_words(words: &[String]) -> Option<Options>
+    ensures exact { result ≡ options_in (map string_bytes words.now) }
+    ensures few { IfSome result (λ options. options.lanes ≤ 64) }
 {
     match words {
-        [place, command] if place.as_str() == "-" && command.as_str() == "replay" => Some(1),
+        [place, command, options @ ..] if place.as_str() == "-" && command.as_str() == "replay" => {
+            read_options(options)
+        }
         _ => None,
+    }
+}
+
+fn read_options(words: &[String]) -> Option<Options>
+    ensures exact { result ≡ options_of (map string_bytes words.now) }
+    ensures few { IfSome result (λ options. options.lanes ≤ 64) }
+{
+    if !are_options(words) {
+        return None;
+    }
+    match (read_lanes(words), read_seed(words)) {
+        (Some(lanes), Some(seed)) => Some(Options { lanes, seed }),
+        _ => None,
+    }
+}
+
+/// Whether the words are options, each a name and a value.
+fn are_options(words: &[String]) -> bool
+    ensures { result ≡ Words.are_options (map string_bytes words.now) }
+{
+    for option in 0..words.len() / 2 {
+        if !is_option(words[2 * option].as_str()) {
+            return false;
+        }
+    }
+    words.len() % 2 == 0
+}
+
+fn is_option(name: &str) -> bool
+    ensures { result ≡ Words.is_option name.now }
+{
+    name == "--lanes" || name == "--seed"
+}
+
+fn read_lanes(words: &[String]) -> Option<u32>
+    ensures exact { result ≡ once_or 64 lanes_of (values_of (codes "--lanes") (map string_bytes words.now)) }
+    ensures few { IfSome result (λ lanes. lanes ≤ 64) }
+{
+    match find_value(words, "--lanes") {
+        Found::Nowhere => Some(64),
+        Found::At(place) => lane_count(words[place].as_bytes()),
+        Found::Twice => None,
+    }
+}
+
+/// A number of lanes, 1 to 64.
+fn lane_count(text: &[u8]) -> Option<u32>
+    ensures exact { result ≡ lanes_of text.now }
+    ensures few { IfSome result (λ lanes. lanes ≤ 64) }
+{
+    match read_number(text) {
+        Some(number) if 1 <= number && number <= 64 => Some(number as u32),
+        _ => None,
+    }
+}
+
+fn read_seed(words: &[String]) -> Option<[u8; 32]>
+    ensures { result ≡ once_or (replicate 32 0) seed_of (values_of (codes "--seed") (map string_bytes words.now)) }
+{
+    match find_value(words, "--seed") {
+        Found::Nowhere => Some([0; 32]),
+        Found::At(place) => seed_in_hex(words[place].as_bytes()),
+        Found::Twice => None,
+    }
+}
+
+/// A seed, in 64 hex digits of either case.
+fn seed_in_hex(text: &[u8]) -> Option<[u8; 32]>
+    ensures { result ≡ seed_of text.now }
+{
+    <[u8; 32] as FromHex>::from_hex(text).ok()
+}
+
+/// Looks for the value of the option with this name. Options are two words each.
+fn find_value(words: &[String], name: &str) -> Found
+    ensures { IsFound (map string_bytes words.now) result [] (values_of name.now (map string_bytes words.now)) }
+{
+    let mut found = Found::Nowhere;
+    for option in 0..words.len() / 2 {
+        if words[2 * option].as_str() == name {
+            found = one_more(found, 2 * option + 1);
+        }
+    }
+    found
+}
+
+/// One more value, at this place.
+fn one_more(found: Found, place: usize) -> Found
+    ensures { result ≡ found_after found place }
+{
+    match found {
+        Found::Nowhere => Found::At(place),
+        Found::At(_) | Found::Twice => Found::Twice,
     }
 }

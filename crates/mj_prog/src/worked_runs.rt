@@ -78,10 +78,7 @@ fn one_connection_asks_and_is_answered_or_ended(rt: HostRuntime) -> Result<(), F
             &[HELLO, QUESTION_AND_MORE, "00"],
             &[GREETED, READIED, ANSWERED, "end 0 bad-flags 123", "done 4"],
         ),
-        (
-            &[HELLO, ECHO_REQUEST],
-            &[GREETED, READIED, "end 0 not-built 0", "done 3"],
-        ),
+        (&[HELLO, ECHO_REQUEST], &[GREETED, READIED, "done 3"]),
         (
             &[PLAIN_GREETING],
             &[GREETED, "end 0 bad-mechanism 12", "done 2"],
@@ -139,7 +136,13 @@ fn a_second_open_replaces_the_connection(rt: HostRuntime) -> Result<(), Fail> {
 
 #[test]
 fn what_was_acted_on_is_printed_before_a_fault(rt: HostRuntime) -> Result<(), Fail> {
-    let (text, status) = printed(rt.alloc(), &["-", "replay"], b"open 0\nopne 0\n", &[], &[])?;
+    let (text, status) = printed(
+        rt.alloc(),
+        &["-", "replay"],
+        b"open 0\nopne 1\nopen 2\n",
+        &[],
+        &[],
+    )?;
     let wanted = lines_of(rt.alloc(), &[GREETED, "fault line 2"])?;
     assert_eq!(rt; text.as_slice(), wanted.as_slice());
     assert_eq!(rt; status, 2);

@@ -1,10 +1,10 @@
 -- What is taken first passes, and nothing before it does.
-use Rattle.std.proofs.Common.{◌≡◌, Bool, true, false, cond, List, [], ◌∷◌, Option, None, Some, MatchOption, refl, ap}
+use Rattle.std.proofs.Common.{◌≡◌, ◌||◌, Bool, true, false, cond, List, [], ◌∷◌, ◌++◌, Option, None, Some, MatchOption, is_some, refl, ap, ◌∙◌}
 use Rattle.std.specs.Option.{option_map}
 use Rattle.std.specs.List.{list_any}
 use Rattle.mj_queue.specs.declared.request.Request.{Request}
 use Rattle.mj_queue.specs.declared.worker.Waiter.{Waiter}
-use Rattle.mj_queue.specs.Settling.{given, has_waiter, paired, put_back, serves, take_first}
+use Rattle.mj_queue.specs.Settling.{Pair, given, has_waiter, pair, paired, put_back, serves, take_first}
 use Rattle.mj_queue.specs.PairLaw.{IsFirst, IsPair, PairIsFirst}
 
 module _ {X : Type 0} (test : X → Bool) where
@@ -42,3 +42,26 @@ pair-is-first waiting requests = of (take_first (has_waiter waiting) requests) (
     of : (asked : Option (Request × List Request)) → IsTaken (has_waiter waiting) requests asked → MatchOption (paired waiting asked) (list_any (has_waiter waiting) requests ≡ false) (IsPair waiting requests)
     of None none = none
     of (Some asked) is = found_for waiting requests asked (take_first (serves asked.0.service) waiting) is (take_first-is (serves asked.0.service) waiting)
+
+some_passes : {X : Type 0} (test : X → Bool) (before : List X) (x : X) (after : List X) → test x ≡ true → list_any test (before ++ x ∷ after) ≡ true
+some_passes test [] x after passes = rw passes refl
+some_passes test (y ∷ ys) x after passes = rw (some_passes test ys x after passes) (or_true (test y))
+  where
+    or_true : (b : Bool) → (b || true) ≡ true
+    or_true true = refl
+    or_true false = refl
+
+-- there is a pair exactly where some request has a waiting worker
+pub some-pair : (waiting : List Waiter) (requests : List Request) → list_any (has_waiter waiting) requests ≡ is_some (pair waiting requests)
+some-pair waiting requests = of (pair waiting requests) (pair-is-first waiting requests)
+  where
+    of : (found : Option Pair) → MatchOption found (list_any (has_waiter waiting) requests ≡ false) (IsPair waiting requests) → list_any (has_waiter waiting) requests ≡ is_some found
+    of None none = none
+    of (Some p) is =
+        ap (list_any (has_waiter waiting)) is.asked.whole ∙ some_passes (has_waiter waiting) is.asked.before p.request is.asked.after is.asked.passes
+
+-- the same of a hall and of slices of its lists
+pub asked-seen : (waiting read_waiting : List Waiter) (requests read_requests : List Request) → read_waiting ≡ waiting → read_requests ≡ requests
+    → list_any (has_waiter read_waiting) read_requests ≡ is_some (pair waiting requests)
+asked-seen waiting read_waiting requests read_requests same_waiting same_requests =
+    some-pair read_waiting read_requests ∙ ap (λ (ws : List Waiter). is_some (pair ws read_requests)) same_waiting ∙ ap (λ (rs : List Request). is_some (pair waiting rs)) same_requests

@@ -1,6 +1,6 @@
-ghost use Rattle.std.specs.Prelude.{◌≡◌, ◌++◌, [], OnOk, OnErr, IfOk};
+ghost use Rattle.std.specs.Prelude.{◌≡◌, ◌++◌, [], is_some, OnOk, OnErr, IfOk};
 ghost use Rattle.mj_queue.specs.Settling;
-ghost use Rattle.mj_queue.specs.Settling.{is_served, queued, without_client, without_ticket, without_worker};
+ghost use Rattle.mj_queue.specs.Settling.{is_served, pair, queued, without_client, without_ticket, without_worker};
 ghost use Rattle.mj_queue.specs.HallSteps.{Asked, Takes, waits};
 
 use super::places::{self, is_of_client, place_of_request, place_of_worker, some_serves};
@@ -100,6 +100,16 @@ impl Hall {
         let worker = waiter.worker;
         self.busy.push(waiter).unwrap();
         Some((worker, request))
+    }
+
+    /// Whether some request's service has a waiting worker.
+    pub fn has_pair(&self) -> bool
+        ensures { result ≡ is_some (pair self.now.waiting self.now.requests) }
+    {
+        if self.waiting.is_empty() {
+            return false;
+        }
+        places::some_asked(&self.requests, &self.waiting)
     }
 
     /// Takes the worker out, whether it waits or is busy.

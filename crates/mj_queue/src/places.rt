@@ -15,6 +15,15 @@ pub fn place_of_request(requests: &[Request], waiting: &[Waiter]) -> Option<usiz
         .position(|request| some_serves(waiting, &request.service))
 }
 
+/// Whether some request's service has a waiting worker.
+pub fn some_asked(requests: &[Request], waiting: &[Waiter]) -> bool
+    ensures { result ≡ list_any (has_waiter waiting.now) requests.now }
+{
+    requests
+        .iter()
+        .any(|request| some_serves(waiting, &request.service))
+}
+
 /// The place of the first worker that serves this.
 pub fn place_of_worker(workers: &[Waiter], service: &Name) -> Option<usize>
     ensures { result ≡ position (serves service.now) workers.now }

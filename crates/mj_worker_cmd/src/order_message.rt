@@ -31,12 +31,12 @@ pub fn read_order(alloc: Global, message: &Frames) -> Result<Option<Order>, NoMe
     }))
 }
 
-/// The frames of this command. In 0.1 the empty frame stands first.
+/// The frames of this command. Where `is_writable` says that its version has such a command, they are that command's
+/// and are read back as it.
 pub fn write_order(alloc: Global, order: &Order) -> Result<Frames, NoMemory>
-    requires { IsLed order.now.version order.now.lead }
     ensures exact { IfOk result (λ message. message ≡ order_frames order.now) }
-    ensures related { IfOk result (λ message. IsOrder order.now message) }
-    ensures read { IfOk result (λ message. order_of message ≡ Some order.now) }
+    ensures related { IsLed order.now.version order.now.lead → IfOk result (λ message. IsOrder order.now message) }
+    ensures read { IsLed order.now.version order.now.lead → IfOk result (λ message. order_of message ≡ Some order.now) }
 {
     let mut message = Frames::new(alloc);
     push_opening(order.version, order.lead, &mut message)?;

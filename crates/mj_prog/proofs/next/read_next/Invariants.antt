@@ -1,4 +1,4 @@
-use Rattle.std.proofs.Common.{◌≡◌, ◌+◌, ◌≤◌, List, ℕ, Option, length}
+use Rattle.std.proofs.Common.{◌≡◌, ◌+◌, ◌*◌, ◌≤◌, List, ℕ, Option, length}
 use Rattle.mj_base.specs.declared.event.Event.{Event}
 use Rattle.mj_prog.specs.ReadSoFar.{IsSoFar}
 use Rattle.mj_prog.proofs.next.read_next.Given as goal
@@ -13,4 +13,4 @@ invariant-loop-next g l = record {
 }
 
 abbrev pub decreases-loop-next : goal.decreases-loop-next
-decreases-loop-next g l = l.progress.room
+decreases-loop-next g l = 2 * l.progress.room + length l.progress.pending.items

@@ -9,6 +9,7 @@ invariant-loop-halt g l = record {
   lanes : l.progress.lanes ≡ l.fn.progress.lanes;
   limits : l.broker.limits ≡ l.fn.broker.limits;
   fresh : l.broker.spent ≡ false;
+  next : l.broker.state.next ≤ l.events + 1;
   reads_later : g.S.Source.faults l.fn.src ≤ g.S.Source.faults l.src;
   writes_later : g.K.Sink.faults l.fn.out ≤ g.K.Sink.faults l.out;
   few : l.events + (l.progress.room + length l.progress.pending.items) ≤ 2 ^ 40;

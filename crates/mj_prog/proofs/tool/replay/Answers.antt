@@ -1,7 +1,7 @@
 use Rattle.std.proofs.Common.{◌^◌, ℕ, List, sym, subst}
 use Rattle.mj_base.specs.declared.limits.Limits.{Limits}
 use Rattle.mj_base.specs.StandardLimits.{standard_limits}
-use Rattle.mj_broker.specs.MachineState.{start}
+use Rattle.mj_machine.specs.MachineState.{start}
 use Rattle.mj_broker.specs.BrokerState.{IsAt}
 use Rattle.mj_prog.specs.Running.{IsRunning}
 use Rattle.mj_prog.proofs.Runs.{running-nothing}

@@ -1,0 +1,62 @@
+//! The readers of the connections' streams, looked up by the connection's number.
+ghost use Rattle.std.specs.Prelude.{◌≡◌, ◌==◌, ℕ, List, [], position, None, IsSome, IfOk, OnOk};
+ghost use Rattle.mj_base.specs.declared.limits.Limits.{Limits as ALimits};
+ghost use Rattle.mj_wire.specs.StreamItems.{gained};
+ghost use Rattle.mj_wire.specs.WireState.{State as WireValue};
+ghost use Rattle.mj_machine.specs.MachineState.{Stream};
+ghost use Rattle.mj_machine.specs.EventStep.{fed, stream_of};
+ghost use Rattle.mj_broker.specs.Wires.{AreFresh, IsLinkAt, SameNumbers, WiresStand, kept_links, wire_of};
+
+use crate::machine::Core;
+use mj_base::NoMemory;
+use mj_wire::{Wire, WireItem};
+use std::alloc::Global;
+
+/// A connection's number, and the reader of its stream.
+#[derive(Drop)]
+pub struct Link {
+    pub number: u64,
+    pub wire: Wire,
+}
+
+/// The place of the first reader of this number.
+fn place_of(links: &[Link], number: u64) -> Option<usize>
+    ensures { IsLinkAt number links.now result }
+{
+    first_place(links, number)
+}
+
+fn first_place(links: &[Link], number: u64) -> Option<usize>
+    ensures { result ≡ position (λ l. l.number == number) links.now }
+{
+    links.iter().position(|link| link.number == number)
+}
+
+/// Feeds the reader of this number, and gives the items that its stream gains.
+pub fn feed(
+    alloc: Global,
+    links: &mut Vec<Link>,
+    number: u64,
+    piece: &[u8],
+) -> Result<Vec<WireItem>, NoMemory>
+    requires there { IsSome (wire_of number links.old.items) }
+    requires fresh { AreFresh links.old.items }
+    ensures items { IfOk result (λ items. (limits : ALimits) (streams : List Stream) → WiresStand limits links.old.items streams
+        → items.items ≡ gained limits (stream_of number streams) piece.now) }
+    ensures stand { OnOk result ((limits : ALimits) (streams : List Stream) → WiresStand limits links.old.items streams
+        → WiresStand limits links.new.items (fed number piece.now streams)) }
+    ensures fresh { OnOk result (AreFresh links.new.items) }
+    ensures numbers { OnOk result (SameNumbers links.old.items links.new.items) }
+{
+    let at = place_of(links, number).unwrap();
+    let mut items = Vec::new(alloc);
+    links[at].wire.feed(alloc, piece, &mut items)?;
+    Ok(items)
+}
+
+/// Takes out the readers of connections that are there no more.
+pub fn drop_ended(links: &mut Vec<Link>, core: &Core)
+    ensures { links.new.items ≡ kept_links core.now.connections links.old.items }
+{
+    links.retain(|link| core.has(link.number));
+}

@@ -1,0 +1,16 @@
+pub mod ListLemmas
+pub mod SettledLemmas
+pub mod LookLemmas
+pub mod Walk
+pub mod StepWalk
+pub mod CountLemmas
+pub mod WorkerLemmas
+pub mod AskerLemmas
+pub mod ApartLemmas
+pub mod SoundLemmas
+pub mod RequestLemmas
+pub mod TextLemmas
+pub mod ReplyLemmas
+pub mod PairedLemmas
+pub mod ReadLemmas
+pub mod LeaseLemmas

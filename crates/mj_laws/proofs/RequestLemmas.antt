@@ -1,0 +1,248 @@
+-- Between two REQUESTs to one connection stands what frees it.
+use Rattle.std.proofs.Common.{◌≡◌, ◌≢◌, ◌≤◌, ◌==◌, ◌⊎◌, ℕ, Bool, true, false, List, [], ◌∷◌, ◌++◌, length, Option, None, Some, refl, sym, ap, subst, ◌∙◌, inl, inr, arith}
+use Rattle.std.specs.List.{AllByRecursion}
+use Rattle.std.proofs.lemmas.Bool.Decides.{eqb_tells}
+use Rattle.mj_base.specs.declared.event.Event.{Event}
+use Rattle.mj_base.specs.declared.event.Out.TheVariants.{Piece}
+use Rattle.mj_base.specs.declared.limits.Limits.{Limits}
+use Rattle.mj_queue.specs.Settling.{Pair, pair, serves}
+use Rattle.mj_queue.specs.declared.worker.Waiter.{Waiter}
+use Rattle.mj_machine.specs.declared.connection.Connection.{Connection}
+use Rattle.mj_machine.specs.declared.connection.Role.{Role}
+use Rattle.mj_machine.specs.declared.connection.Role.TheVariants.{Client, Fresh, Gone, Worker}
+use Rattle.mj_machine.specs.declared.connection.Voice.{Voice}
+use Rattle.mj_machine.specs.declared.held.Held.{Held}
+use Rattle.mj_machine.specs.MachineState.{State, start}
+use Rattle.mj_machine.specs.Connections.{connection_of, voice_of, with_role}
+use Rattle.mj_machine.specs.Leaving.{becomes, goes, held_without, left, removed}
+use Rattle.mj_machine.specs.Sending.{is_slow, sends_if, sends_to, sent}
+use Rattle.mj_machine.specs.Pairing.{handed, held_by_pair, mark_set, request_text, waits}
+use Rattle.mj_machine.specs.TickStep.{expires}
+use Rattle.mj_machine.specs.EventStep.{delivered, opened}
+use Rattle.mj_machine.specs.MessageStep.{registration, said_in}
+use Rattle.mj_machine.specs.MachineRun.{run_state}
+use Rattle.mj_machine.specs.Steps.{Cause, Expiry, IsAllowed, IsChain, IsStep, Step, acts, run_steps, step_of}
+use Rattle.mj_machine.proofs.ConnectionLemmas.{changed-other, cut_off-other, cut_off-same, equal}
+use Rattle.mj_machine.proofs.StepLemmas.{steps-lead}
+use Rattle.mj_laws.specs.Requests.{IsFinalReply, IsFreeing, IsRequestTo, OneFrees, Replies, has_left}
+use Rattle.mj_laws.specs.Soundness.{WorkersStandOnce, holdings, one_if, places, service_in, service_of}
+use Rattle.mj_laws.proofs.CountLemmas.{times-append, times-first, times-without-other}
+use Rattle.mj_laws.proofs.ListLemmas.{all-front, all-map, all-rest}
+use Rattle.mj_laws.proofs.LookLemmas.{heard-gone, left-given, left-idle, look-changed, spoken-gone}
+use Rattle.mj_laws.proofs.SoundLemmas.{stays-sound}
+use Rattle.mj_laws.proofs.Walk.{IsKept, IsNoServer, given_over, registered, walk-acts}
+use Rattle.mj_laws.proofs.WorkerLemmas.{is-pair, no-server}
+
+abbrev Holds : ℕ → State → Type 0
+Holds n s = 1 ≤ holdings n s.held
+
+abbrev HasLeft : ℕ → State → Type 0
+HasLeft n s = has_left (connection_of n s.connections) ≡ true
+
+abbrev AnyLane : ℕ → Type 0
+AnyLane lane = Unit {0}
+
+-- ---- one step
+
+-- n holds on, or has left, or has given its final reply in this act, or its lease ends by it
+module _ (n : ℕ) (cause : Cause) (s0 : State) (once : WorkersStandOnce s0) (holds : Holds n s0) where
+  abbrev May : ℕ → Type 0
+  May q = IsFinalReply q (step_of cause s0)
+
+  abbrev Ends : ℕ → Type 0
+  Ends q = cause ≡ Expiry q
+
+  abbrev OrFreed : State → Type 0
+  OrFreed s = Holds n s ⊎ (HasLeft n s ⊎ (May n ⊎ Ends n))
+
+  goes-on : (s t : State) → (Holds n s → Holds n t) → (HasLeft n s → HasLeft n t) → OrFreed s → OrFreed t
+  goes-on s t on gone p =
+      elim p [ inl held ↦ inl (on held) | inr freed ↦ elim freed [ inl away ↦ inr (inl (gone away)) | inr by_this ↦ inr (inr by_this) ] ]
+
+  -- the connections alone change
+  same-places : (s : State) (cs : List Connection) → (HasLeft n s → has_left (connection_of n cs) ≡ true) → OrFreed s → OrFreed (record s { connections = cs })
+  same-places s cs gone p = goes-on s (record s { connections = cs }) (λ held. held) gone p
+
+  -- the others hold on when q holds nothing any more
+  others-hold : (q : ℕ) → n ≢ q → (held : List Held) → 1 ≤ holdings n held → 1 ≤ holdings n (held_without q held)
+  others-hold q apart held h = let same = times-without-other (λ (x : Held). x.worker) n q apart held in omega (arith, same, h)
+
+  -- whoever holds a request is a worker
+  no-idle : service_of (connection_of n s0.connections) ≡ None → ⊥
+  no-idle idle =
+      let now = once n in
+      let none = ap places idle in
+      omega (arith, now, none, holds)
+
+  no-leaver : HasLeft n s0 → ⊥
+  no-leaver gone = no-idle (left-idle (connection_of n s0.connections) gone)
+
+  idle-at : (q : ℕ) (c : Connection) → n ≡ q → connection_of q s0.connections ≡ Some c → service_in c.role ≡ None → service_of (connection_of n s0.connections) ≡ None
+  idle-at q c same is idle = ap (λ (x : ℕ). service_of (connection_of x s0.connections)) same ∙ ap service_of is ∙ idle
+
+  freed-removed : (q : ℕ) (s : State) → OrFreed s → OrFreed (removed q s)
+  freed-removed q s p =
+      elim (eqb_tells n q) [
+        | inl agree ↦ inr (inl (subst (λ (x : ℕ). has_left (connection_of x (removed q s).connections) ≡ true) (sym agree.1) (ap has_left (cut_off-same q s.connections))))
+        | inr other ↦ goes-on s (removed q s) (others-hold q other.1 s.held) (λ gone. ap has_left (cut_off-other q n other.1 s.connections) ∙ gone) p
+      ]
+
+  freed-others : (q : ℕ) (role : Role) (s : State) → n ≢ q → OrFreed s → OrFreed (becomes q role (left q s))
+  freed-others q role s apart p =
+      goes-on s (becomes q role (left q s)) (others-hold q apart s.held) (λ gone. ap has_left (changed-other q n (with_role role) (λ c. refl) apart s.connections) ∙ gone) p
+
+  freed-gone : (q : ℕ) (s : State) → OrFreed s → OrFreed (goes q s)
+  freed-gone q s p =
+      elim (eqb_tells n q) [
+        | inl agree ↦ inr (inl (subst (λ (x : ℕ). has_left (connection_of x (goes q s).connections) ≡ true) (sym agree.1) (left-given q s.connections)))
+        | inr other ↦ freed-others q Gone s other.1 p
+      ]
+
+  freed-expired : (q : ℕ) (s : State) → Ends q → OrFreed s → OrFreed (expires q s)
+  freed-expired q s ends p =
+      elim (eqb_tells n q) [ inl agree ↦ inr (inr (inr (subst Ends (sym agree.1) ends))) | inr other ↦ freed-others q Fresh s other.1 p ]
+
+  freed-asking : (q : ℕ) (c : Connection) → connection_of q s0.connections ≡ Some c → IsNoServer c.role → OrFreed s0 → OrFreed (becomes q Client s0)
+  freed-asking q c is plain p =
+      elim (eqb_tells n q) [
+        | inl agree ↦ absurd (no-idle (idle-at q c agree.1 is (no-server c.role plain)))
+        | inr other ↦ same-places s0 (becomes q Client s0).connections (λ gone. ap has_left (changed-other q n (with_role Client) (λ d. refl) other.1 s0.connections) ∙ gone) p
+      ]
+
+  freed-registered : (q : ℕ) (c : Connection) (voice : Voice) (service : List ℕ) → connection_of q s0.connections ≡ Some c → c.role ≡ Fresh → OrFreed s0
+      → OrFreed (registered q voice service s0)
+  freed-registered q c voice service is fresh p =
+      elim (eqb_tells n q) [
+        | inl agree ↦ absurd (no-idle (idle-at q c agree.1 is (ap service_in fresh)))
+        | inr other ↦ goes-on s0 (registered q voice service s0) (others-hold q other.1 s0.held)
+            (λ gone. ap has_left (changed-other q n (with_role (Worker (registration voice service s0))) (λ d. refl) other.1 s0.connections) ∙ gone) p
+      ]
+
+  freed-rested : (q : ℕ) (service : List ℕ) (s : State) → May q → OrFreed s → OrFreed (waits q service s)
+  freed-rested q service s may p =
+      elim (eqb_tells n q) [
+        | inl agree ↦ inr (inr (inl (subst May (sym agree.1) may)))
+        | inr other ↦ goes-on s (waits q service s) (others-hold q other.1 s.held) (λ gone. gone) p
+      ]
+
+  freed-given : (q : Pair) → OrFreed s0 → OrFreed (given_over q s0)
+  freed-given q p =
+      goes-on s0 (given_over q s0) (λ held. let more = times-append (λ (x : Held). x.worker == n) s0.held (held_by_pair q ∷ []) in omega (arith, more, held)) (λ gone. gone) p
+
+  freed-kept : IsKept May AnyLane Ends s0 OrFreed
+  freed-kept = record {
+    keeps_marked = λ q s p. same-places s _ (λ gone. look-changed has_left n q (mark_set s.now) (λ c. refl) (λ c. heard-gone s.now c.role) s.connections ∙ gone) p;
+    keeps_sent = λ q octets c s is slow p. same-places s _
+        (λ gone. look-changed has_left n q (sent s.now octets) (λ d. refl) (λ d. spoken-gone s.now d.role) s.connections ∙ gone) p;
+    keeps_reported = λ q s p. same-places s _ (λ gone. look-changed has_left n q delivered (λ c. refl) (λ c. refl) s.connections ∙ gone) p;
+    keeps_removed = λ q s p. freed-removed q s p;
+    keeps_gone = λ q s p. freed-gone q s p;
+    keeps_expired = λ q s ends p. freed-expired q s ends p;
+    keeps_asking = λ q c is plain p. freed-asking q c is plain p;
+    keeps_queued = λ q c request is origin p. p;
+    keeps_registered = λ q c voice service is fresh p. freed-registered q c voice service is fresh p;
+    keeps_rested = λ q service s may works p. freed-rested q service s may p;
+    keeps_given = λ q is p. freed-given q p;
+    keeps_opened = λ lane free p. goes-on s0 (opened lane s0) (λ held. held) (λ gone. absurd (no-leaver gone)) p;
+    keeps_time = λ ms s p. p;
+  }
+
+  freed-acts : IsAllowed cause s0 → OrFreed (acts cause s0).0
+  freed-acts allowed =
+      walk-acts May AnyLane Ends s0 OrFreed freed-kept cause allowed (λ q message is says. record { message = message; cause = is; says = says }) (λ lane is. tt) (λ q is. is)
+      (inl holds)
+
+step-holds : (n : ℕ) (s : State) (t : Step) → IsStep s t → WorkersStandOnce s → Holds n s → IsFreeing n t ⊎ Holds n t.after
+step-holds n s t is once holds =
+    elim (freed-acts n t.cause s once holds is.allowed) [
+      | inl held ↦ inr (subst (Holds n) (sym is.after) held)
+      | inr freed ↦ elim freed [
+        | inl gone ↦ inl (inr (inr (subst (HasLeft n) (sym is.after) gone)))
+        | inr by_this ↦ elim by_this [
+          | inl final ↦ inl (inl (record {
+            message = final.message;
+            cause = final.cause;
+            says = subst (Replies true n (said_in final.message)) (sym is.before) final.says;
+          }))
+          | inr ends ↦ inl (inr (inl ends))
+        ]
+      ]
+    ]
+
+-- ---- steps in a row
+
+chain-split : (s end : State) (xs ys : List Step) → IsChain s (xs ++ ys) end → (middle : State) × IsChain s xs middle × IsChain middle ys end
+chain-split s end [] ys chain = (s, refl, chain)
+chain-split s end (t ∷ xs) ys chain = let rest = chain-split t.after end xs ys chain.1 in (rest.0, (chain.0, rest.1), rest.2)
+
+holds-on : (n : ℕ) (s end : State) (steps : List Step) → IsChain s steps end → AllByRecursion (λ t. WorkersStandOnce t.before) steps → Holds n s → OneFrees n steps ⊎ Holds n end
+holds-on n s end [] chain all holds = inr (subst (Holds n) chain holds)
+holds-on n s end (t ∷ steps) chain all holds =
+    elim (step-holds n s t chain.0 (subst WorkersStandOnce chain.0.before all.0) holds) [
+      | inl frees ↦ inl (inl frees)
+      | inr held ↦ elim (holds-on n t.after end steps chain.1 all.1 held) [ inl later ↦ inl (inr later) | inr still ↦ inr still ]
+    ]
+
+-- ---- a REQUEST
+
+-- where a piece was put nobody was cut off
+put-held_if : (b : Bool) (n : ℕ) (piece : List ℕ) (c : Connection) (s : State) (lane : ℕ) (octets : List ℕ) → (sends_if b n piece c s).1 ≡ Piece lane octets ∷ []
+    → (sends_if b n piece c s).0.held ≡ s.held
+put-held_if true n piece c s lane octets put = absurd (cc put)
+put-held_if false n piece c s lane octets put = refl
+
+put-held : (n : ℕ) (piece : List ℕ) (o : Option Connection) (s : State) (lane : ℕ) (octets : List ℕ) → (sends_to n piece o s).1 ≡ Piece lane octets ∷ []
+    → (sends_to n piece o s).0.held ≡ s.held
+put-held n piece None s lane octets put = absurd (cc put)
+put-held n piece (Some c) s lane octets put = put-held_if (is_slow s.limits c (length piece)) n piece c s lane octets put
+
+request-holds : (n : ℕ) (s : State) (t : Step) → IsStep s t → IsRequestTo n t → Holds n t.after
+request-holds n s t is request =
+    let p = request.chosen in
+    let piece = request_text (voice_of (connection_of p.waiter.worker s.connections)) p.request in
+    let found = connection_of p.waiter.worker (handed p s).connections in
+    let put : (sends_to p.waiter.worker piece found (handed p s)).1 ≡ Piece request.lane request.octets ∷ [] =
+    ap (λ (c : Cause). (acts c s).1) (sym request.cause) ∙ sym is.outs ∙ request.put in
+    let held : t.after.held ≡ s.held ++ held_by_pair p ∷ [] =
+    ap (λ (x : State). x.held) is.after ∙ ap (λ (c : Cause). (acts c s).0.held) request.cause
+    ∙ put-held p.waiter.worker piece found (handed p s) request.lane request.octets put in
+    let count = ap (holdings n) held in
+    let more = times-append (λ (x : Held). x.worker == n) s.held (held_by_pair p ∷ []) in
+    let one = ap one_if (ap (λ (x : ℕ). x == n) request.worker ∙ equal n) in
+    omega (arith, count, more, one)
+
+places-few : (o : Option (List ℕ)) → places o ≤ 1
+places-few None = omega arith
+places-few (Some service) = omega arith
+
+-- whoever holds a request gets none
+no-request : (n : ℕ) (s : State) (u : Step) → IsStep s u → IsRequestTo n u → WorkersStandOnce s → Holds n s → ⊥
+no-request n s u is request once holds =
+    let p = request.chosen in
+    let found : pair s.waiting s.queue ≡ Some p = subst (λ (c : Cause). IsAllowed c s) request.cause is.allowed in
+    let waiting = times-first (λ (x : Waiter). x.worker == n) (serves p.request.service) s.waiting p.waiter p.waiting (is-pair s.waiting s.queue p found).found in
+    let one = ap one_if (ap (λ (x : ℕ). x == n) request.worker ∙ equal n) in
+    let now = once n in
+    let few = places-few (service_of (connection_of n s.connections)) in
+    omega (arith, waiting, one, now, few, holds)
+
+-- ---- runs
+
+pub one_request_at_a_time : (limits : Limits) (events : List Event) (n : ℕ) (front between rest : List Step) (t u : Step)
+    → run_steps limits (start limits) events ≡ front ++ (t ∷ (between ++ (u ∷ rest))) → IsRequestTo n t → IsRequestTo n u → OneFrees n between
+one_request_at_a_time limits events n front between rest t u whole first second =
+    let end = (run_state limits (start limits) events).state in
+    let chain : IsChain (start limits).state (front ++ (t ∷ (between ++ (u ∷ rest)))) end =
+    subst (λ (xs : List Step). IsChain (start limits).state xs end) whole (steps-lead limits (start limits) events) in
+    let once : AllByRecursion (λ x. WorkersStandOnce x.before) (front ++ (t ∷ (between ++ (u ∷ rest)))) =
+    subst (AllByRecursion (λ (x : Step). WorkersStandOnce x.before)) whole
+    (all-map _ _ (λ x sound. sound.0.once) (run_steps limits (start limits) events) (stays-sound limits events).0) in
+    let at_t = chain-split (start limits).state end front (t ∷ (between ++ (u ∷ rest))) chain in
+    let once_t = all-rest (λ (x : Step). WorkersStandOnce x.before) front (t ∷ (between ++ (u ∷ rest))) once in
+    let at_u = chain-split t.after end between (u ∷ rest) at_t.2.1 in
+    let once_u = all-rest (λ (x : Step). WorkersStandOnce x.before) between (u ∷ rest) once_t.1 in
+    let holds = request-holds n at_t.0 t at_t.2.0 first in
+    elim (holds-on n t.after at_u.0 between at_u.1 (all-front (λ (x : Step). WorkersStandOnce x.before) between (u ∷ rest) once_t.1) holds) [
+      | inl freed ↦ freed
+      | inr still ↦ absurd (no-request n at_u.0 u at_u.2.0 second (subst WorkersStandOnce at_u.2.0.before once_u.0) still)
+    ]

@@ -1,0 +1,4 @@
+pub mod NobodyWaits
+pub mod Soundness
+pub mod Requests
+pub mod Replies

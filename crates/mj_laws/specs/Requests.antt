@@ -1,0 +1,109 @@
+-- Busy workers: one request at a time.
+use Rattle.std.specs.Prelude.{ℕ, ◌≡◌, ◌⊎◌, Bool, true, false, List, [], ◌∷◌, ◌++◌, Option, None, Some}
+use Rattle.std.specs.List.{AllByRecursion}
+use Rattle.mj_base.specs.declared.event.Event.{Event}
+use Rattle.mj_base.specs.declared.event.Out.{Out}
+use Rattle.mj_base.specs.declared.event.Out.TheVariants.{End, Piece}
+use Rattle.mj_base.specs.declared.limits.Limits.{Limits}
+use Rattle.mj_wire.specs.declared.item.WireItem.TheVariants.{Message}
+use Rattle.mj_queue.specs.Settling.{Pair}
+use Rattle.mj_queue.specs.declared.request.Request.{Request as AnyRequest}
+use Rattle.mj_worker_cmd.specs.declared.command.OrderAct.TheVariants.{Request}
+use Rattle.mj_worker_cmd.specs.declared.command.WorkerAct.TheVariants.{Reply}
+use Rattle.mj_worker_cmd.specs.declared.command.WorkerCmd.{WorkerCmd}
+use Rattle.mj_machine.specs.declared.connection.Connection.{Connection}
+use Rattle.mj_machine.specs.declared.connection.Role.{Role}
+use Rattle.mj_machine.specs.declared.connection.Role.TheVariants.{Client, Fresh, Gone, Worker}
+use Rattle.mj_machine.specs.declared.connection.Voice.{Voice}
+use Rattle.mj_machine.specs.declared.said.Said.{Said}
+use Rattle.mj_machine.specs.declared.said.Said.TheVariants.{Serves}
+use Rattle.mj_machine.specs.MachineState.{State, start}
+use Rattle.mj_machine.specs.Connections.{connection_of, voice_of}
+use Rattle.mj_machine.specs.MessageStep.{held_by, said_in}
+use Rattle.mj_machine.specs.Sending.{address, order_text}
+use Rattle.mj_machine.specs.Pairing.{request_text}
+use Rattle.mj_machine.specs.TickStep.{is_due}
+use Rattle.mj_machine.specs.Steps.{Expiry, Item, Paired, Step, run_steps}
+
+-- a REQUEST is put to this connection
+pub record IsRequestTo (n : ℕ) (t : Step) : Type 0 where
+  pub chosen : Pair
+  pub cause : t.cause ≡ Paired chosen
+  pub worker : chosen.waiter.worker ≡ n
+  pub lane : ℕ
+  pub octets : List ℕ
+  pub put : t.outs ≡ Piece lane octets ∷ []
+
+-- these words are a reply, the last one where final is true, to the asker of the request that the connection holds
+pub record Replies (final : Bool) (n : ℕ) (said : Said) (s : State) : Type 0 where
+  pub cmd : WorkerCmd
+  pub to : List ℕ
+  pub body : List (List ℕ)
+  pub request : AnyRequest
+  pub said_is : said ≡ Serves cmd
+  pub act_is : cmd.act ≡ Reply final to body
+  pub holds : held_by n s.held ≡ Some request
+  pub address_is : to ≡ address request.origin
+
+pub record IsFinalReply (n : ℕ) (t : Step) : Type 0 where
+  pub message : List (List ℕ)
+  pub cause : t.cause ≡ Item n (Message message)
+  pub says : Replies true n (said_in message) t.before
+
+abbrev pub is_gone : Role → Bool
+is_gone Fresh = false
+is_gone Client = false
+is_gone (Worker r) = false
+is_gone Gone = true
+
+-- the connection is there no more, or is passed over until it closes
+abbrev pub has_left : Option Connection → Bool
+has_left None = true
+has_left (Some c) = is_gone c.role
+
+-- its final reply, its lease's end, or its leaving
+abbrev pub IsFreeing : ℕ → Step → Type 0
+IsFreeing n t = IsFinalReply n t ⊎ ((t.cause ≡ Expiry n) ⊎ (has_left (connection_of n t.after.connections) ≡ true))
+
+abbrev pub OneFrees : ℕ → List Step → Type 0
+OneFrees n [] = ⊥
+OneFrees n (t ∷ steps) = IsFreeing n t ⊎ OneFrees n steps
+
+-- between two REQUESTs to one connection
+abbrev pub OneRequestAtATime : Limits → List Event → Type 0
+OneRequestAtATime limits events = (n : ℕ) (front between rest : List Step) (t u : Step)
+    → run_steps limits (start limits) events ≡ front ++ (t ∷ (between ++ (u ∷ rest)))
+    → IsRequestTo n t → IsRequestTo n u → OneFrees n between
+
+-- ---- REQUESTs, said of bytes
+
+-- these bytes are some REQUEST to a worker (ZeroMQ RFC 7, Majordomo/Worker)
+abbrev pub IsRequest : List ℕ → Type 0
+IsRequest octets = (voice : Voice) × (to : List ℕ) × (body : List (List ℕ)) × (octets ≡ order_text voice (Request to body))
+
+-- the step hands a queued request to the worker on this lane, and the bytes say so in the worker's version
+pub record IsHandedOver (lane : ℕ) (octets : List ℕ) (t : Step) : Type 0 where
+  pub chosen : Pair
+  pub cause : t.cause ≡ Paired chosen
+  pub worker : Connection
+  pub there : connection_of chosen.waiter.worker t.before.connections ≡ Some worker
+  pub lane_is : worker.lane ≡ lane
+  pub text : octets ≡ request_text (voice_of (Some worker)) chosen.request
+  pub alone : t.outs ≡ Piece lane octets ∷ []
+
+-- a piece that can be read as a REQUEST
+abbrev pub IsPaired : Step → Out → Type 0
+IsPaired t (Piece lane octets) = IsRequest octets → IsHandedOver lane octets t
+IsPaired t (End lane reason at) = Unit {0}
+
+abbrev pub RequestsArePaired : Limits → List Event → Type 0
+RequestsArePaired limits events = AllByRecursion (λ t. AllByRecursion (IsPaired t) t.outs) (run_steps limits (start limits) events)
+
+-- ---- leases
+
+-- where a step ends a worker's lease, the worker is there, and was last heard that long ago
+abbrev pub LeaseHasPassed : Step → Type 0
+LeaseHasPassed t = (n : ℕ) → t.cause ≡ Expiry n → (c : Connection) × (connection_of n t.before.connections ≡ Some c) × (is_due t.before c ≡ true)
+
+abbrev pub LeasesEndInTime : Limits → List Event → Type 0
+LeasesEndInTime limits events = AllByRecursion LeaseHasPassed (run_steps limits (start limits) events)

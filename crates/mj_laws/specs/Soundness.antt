@@ -1,0 +1,105 @@
+-- What holds of the broker at every moment of every run.
+use Rattle.std.specs.Prelude.{ℕ, ◌≡◌, ◌≢◌, ◌+◌, ◌==◌, ◌<◌, ◌≤◌, Bool, true, false, List, [], ◌∷◌, length, sum, Option, None, Some}
+use Rattle.std.specs.List.{AllByRecursion}
+use Rattle.mj_base.specs.declared.event.Event.{Event}
+use Rattle.mj_base.specs.declared.limits.Limits.{Limits}
+use Rattle.mj_queue.specs.declared.request.Origin.{Origin}
+use Rattle.mj_queue.specs.declared.request.Origin.TheVariants as origins
+use Rattle.mj_queue.specs.declared.worker.Waiter.{Waiter}
+use Rattle.mj_machine.specs.declared.connection.Connection.{Connection}
+use Rattle.mj_machine.specs.declared.connection.Role.{Role}
+use Rattle.mj_machine.specs.declared.connection.Role.TheVariants.{Fresh, Client, Worker, Gone}
+use Rattle.mj_machine.specs.declared.held.Held.{Held}
+use Rattle.mj_machine.specs.MachineState.{State, start}
+use Rattle.mj_machine.specs.Connections.{connection_of, is_asking}
+use Rattle.mj_machine.specs.MachineRun.{run_state}
+use Rattle.mj_machine.specs.Steps.{run_steps}
+
+-- ---- workers
+
+abbrev pub service_in : Role → Option (List ℕ)
+service_in Fresh = None
+service_in Client = None
+service_in (Worker r) = Some r.service
+service_in Gone = None
+
+-- the service of a connection that is a worker
+abbrev pub service_of : Option Connection → Option (List ℕ)
+service_of None = None
+service_of (Some c) = service_in c.role
+
+-- in how many places a worker stands
+abbrev pub places : Option (List ℕ) → ℕ
+places None = 0
+places (Some service) = 1
+
+abbrev pub one_if : Bool → ℕ
+one_if true = 1
+one_if false = 0
+
+-- how many elements pass
+abbrev pub times : {X : Type 0} → (X → Bool) → List X → ℕ
+times p [] = 0
+times p (x ∷ xs) = one_if (p x) + times p xs
+
+abbrev pub waitings : ℕ → List Waiter → ℕ
+waitings n waiting = times (λ w. w.worker == n) waiting
+
+abbrev pub holdings : ℕ → List Held → ℕ
+holdings n held = times (λ h. h.worker == n) held
+
+-- each worker waits once or holds one request, and nobody else does either
+abbrev pub WorkersStandOnce : State → Type 0
+WorkersStandOnce s = (n : ℕ) → waitings n s.waiting + holdings n s.held ≡ places (service_of (connection_of n s.connections))
+
+-- it waits for its own service, and holds requests for it alone
+abbrev pub ServicesAgree : State → Type 0
+ServicesAgree s =
+    AllByRecursion (λ w. service_of (connection_of w.worker s.connections) ≡ Some w.service) s.waiting
+    × AllByRecursion (λ h. service_of (connection_of h.worker s.connections) ≡ Some h.request.service) s.held
+
+-- ---- clients
+
+-- no ticket is queued without a store
+abbrev pub IsOfClient : List Connection → Origin → Type 0
+IsOfClient connections (origins.Client n) = is_asking (connection_of n connections) ≡ true
+IsOfClient connections (origins.Ticket n) = ⊥
+
+-- whoever has a request in the queue is there and is a client
+abbrev pub AskersAreThere : State → Type 0
+AskersAreThere s = AllByRecursion (λ r. IsOfClient s.connections r.origin) s.queue
+
+-- ---- connections
+
+-- no two have the same key
+abbrev pub IsApart : (Connection → ℕ) → List Connection → Type 0
+IsApart key [] = Unit {0}
+IsApart key (c ∷ cs) = AllByRecursion (λ d. key d ≢ key c) cs × IsApart key cs
+
+-- numbers are below the next, and no two connections share one
+abbrev pub NumbersAreFresh : State → Type 0
+NumbersAreFresh s = AllByRecursion (λ c. c.number < s.next) s.connections × IsApart (λ c. c.number) s.connections
+
+-- no two connections share a lane
+abbrev pub LanesAreApart : State → Type 0
+LanesAreApart s = IsApart (λ c. c.lane) s.connections
+
+-- what is on its way to each peer is within the limits, in pieces and in bytes
+abbrev pub PiecesFit : Limits → State → Type 0
+PiecesFit limits s =
+    (s.limits ≡ limits)
+    × AllByRecursion (λ c. (length c.outstanding ≤ limits.out_pieces) × (sum c.outstanding ≤ limits.out_octets)) s.connections
+
+pub record IsSound (limits : Limits) (s : State) : Type 0 where
+  pub once : WorkersStandOnce s
+  pub services : ServicesAgree s
+  pub askers : AskersAreThere s
+  pub numbers : NumbersAreFresh s
+  pub lanes : LanesAreApart s
+  pub pieces : PiecesFit limits s
+
+-- before and after each step, and at the end
+abbrev pub StaysSound : Limits → List Event → Type 0
+StaysSound limits events =
+    AllByRecursion (λ t. IsSound limits t.before × IsSound limits t.after) (run_steps limits (start limits) events)
+    × IsSound limits (run_state limits (start limits) events).state

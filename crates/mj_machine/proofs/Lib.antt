@@ -1,0 +1,10 @@
+pub mod WorkedLemmas
+pub mod SettlingLemmas
+pub mod RunLemmas
+pub mod ConnectionLemmas
+pub mod AbsentLemmas
+pub mod NextLemmas
+pub mod ByteLemmas
+pub mod StepLemmas
+pub mod PieceLemmas
+pub mod WorkedStepLemmas

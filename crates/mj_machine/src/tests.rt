@@ -1,0 +1,30 @@
+use super::{
+    Lengths, a_run_is_its_front_and_its_rest, a_worked_run_in_steps, items_of_a_cut_piece,
+    steps_are_the_run, the_worked_runs,
+};
+use std::test::Fail;
+
+#[test]
+fn lengths_are_taken_in_the_order_in_which_they_came(rt: HostRuntime) -> Result<(), Fail> {
+    let mut lengths = Lengths::new(rt.alloc());
+    lengths.push(64)?;
+    lengths.push(30)?;
+    assert_eq!(rt; lengths.len(), 2);
+    assert_eq!(rt; lengths.total(), 94);
+    lengths.pop();
+    assert_eq!(rt; lengths.total(), 30);
+    assert!(rt; !lengths.is_empty());
+    lengths.pop();
+    lengths.pop();
+    assert!(rt; lengths.is_empty());
+    Ok(())
+}
+
+#[test]
+fn laws_and_worked_runs_can_be_called() {
+    the_worked_runs();
+    a_worked_run_in_steps();
+    a_run_is_its_front_and_its_rest();
+    steps_are_the_run();
+    items_of_a_cut_piece();
+}
