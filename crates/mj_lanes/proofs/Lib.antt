@@ -1,0 +1,4 @@
+mod Steps
+mod Families
+mod Outlets
+mod Loops

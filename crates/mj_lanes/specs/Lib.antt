@@ -1,0 +1,7 @@
+pub mod Rule
+pub mod Ends
+pub mod Senders
+pub mod Passes
+pub mod ReadSteps
+pub mod WriteSteps
+pub mod TickSteps
