@@ -583,7 +583,7 @@ fn both_versions_are_spoken(rt: HostRuntime) -> Result<(), Fail> {
             ("put 2 ", DISCONNECT_TWO),
             ("done 11", ""),
         ],
-        // A session of both versions, over four heartbeats.
+        // Both versions in one run, over four heartbeats.
         &[
             ("open 0", ""),
             ("put 0 ", GREETING),
