@@ -1,5 +1,5 @@
 -- Which events a broker may be given.
-use Rattle.std.specs.Prelude.{ℕ, ◌<◌, ◌≤◌, ⊤, List, length}
+use Rattle.std.specs.Prelude.{ℕ, ◌<◌, ◌≤◌, ⊤, length}
 use Rattle.mj_base.specs.declared.event.Event.{Event}
 use Rattle.mj_base.specs.declared.event.Event.TheVariants.{Open, Bytes, Sent, Close, Tick, Stop}
 

@@ -4,3 +4,6 @@ pub mod Rising
 pub mod Reading
 pub mod Writing
 pub mod EventBounds
+pub mod KeptWeight
+pub mod LawfulLimits
+pub mod Linking

@@ -20,3 +20,9 @@ abbrev pub WriteCause : ℕ → ℕ → WriteAnswer → Type 0
 WriteCause before now Done = ⊤
 WriteCause before now NoMemory = ⊤
 WriteCause before now Failed = Rose before now
+
+-- want of memory raised the count of wants
+abbrev pub WantCause : ℕ → ℕ → WriteAnswer → Type 0
+WantCause before now Done = ⊤
+WantCause before now NoMemory = Rose before now
+WantCause before now Failed = ⊤

@@ -17,6 +17,16 @@ pub enum Event {
     Stop,
 }
 
+/// What became of the broker's store at an act on its disk: an append, the reading of a body, or an opening again.
+/// The first number is the act's in its event, from 0.
+#[derive(Clone, Copy, Debug, PartialEq, Eq)]
+pub enum Note {
+    /// The act failed, and the store is shut.
+    Shut(u32),
+    /// The act opened the store again; whether the command was found that an earlier failed act left in doubt.
+    Again(u32, bool),
+}
+
 /// What the broker does. The first number is the lane.
 #[derive(Debug, Drop)]
 pub enum Out {
@@ -24,4 +34,6 @@ pub enum Out {
     Piece(u32, Octets),
     /// Ends the lane's connection, with the reason and the place in bytes, or the number, that goes with it.
     End(u32, Reason, u64),
+    /// Tells of its store, to no lane.
+    Note(Note),
 }

@@ -1,4 +1,5 @@
-ghost use Rattle.std.specs.Prelude.{◌≡◌, ◌==◌, ◌+◌, ◌<◌, [], ◌∷◌, ◌++◌, length, drop, sum_by, slice_get, option_copied, OnOk, OnErr, IfOk, MatchOption};
+ghost use Rattle.std.specs.Prelude.{◌≡◌, ◌==◌, ◌+◌, ◌-◌, ◌^◌, ◌<◌, [], ◌∷◌, ◌++◌, length, min, take, drop, sum_by, slice_get, option_copied, OnOk, OnErr, IfOk, MatchOption};
+ghost use Rattle.mj_base.specs.KeptWeight.{weight_of};
 
 use super::{NoMemory, Octets};
 use std::alloc::Global;
@@ -76,9 +77,25 @@ impl Frames {
         }
     }
 
-    /// Appends copies of the other's frames from this place on. Without memory a front of them may be appended.
+    /// Appends copies of the other's frames from this place on. Without memory nothing is appended.
     pub fn append_from(&mut self, other: &Frames, from: usize) -> Result<(), NoMemory>
-        ensures { OnOk result (self.new ≡ self.old ++ drop from other.now) }
+        ensures ok { OnOk result (self.new ≡ self.old ++ drop from other.now) }
+        ensures err { OnErr result (self.new ≡ self.old) }
+    {
+        let len = self.frames.len();
+        let octets = self.octets;
+        let Err(error) = self.append_some(other, from) else {
+            return Ok(());
+        };
+        self.frames.truncate(len);
+        self.octets = octets;
+        Err(error)
+    }
+
+    /// Appends copies of the other's frames from this place on. Without memory a front of them is appended.
+    fn append_some(&mut self, other: &Frames, from: usize) -> Result<(), NoMemory>
+        ensures ok { OnOk result (self.new ≡ self.old ++ drop from other.now) }
+        ensures err { OnErr result (take (length self.old) self.new ≡ self.old) }
     {
         for i in from..other.len() {
             if let Some(frame) = other.get(i) {
@@ -102,6 +119,15 @@ impl Frames {
         ensures { result ≡ sum_by length self.now }
     {
         self.octets
+    }
+
+    /// What they count in a bound on memory: a byte is 1, and a frame 32 more. It stops at 2^64 - 1.
+    pub fn weight(&self) -> u64
+        ensures { result ≡ min (weight_of self.now) (2 ^ 64 - 1) }
+    {
+        (self.frames.len() as u64)
+            .saturating_mul(32)
+            .saturating_add(self.octets)
     }
 
     /// An equal list of its own.

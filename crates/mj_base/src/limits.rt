@@ -32,6 +32,7 @@ pub struct Limits {
 }
 
 impl Limits {
+    ghost use Rattle.mj_base.specs.LawfulLimits;
     ghost use Rattle.mj_base.specs.StandardLimits.{standard_limits, peer_limits};
 
     /// What the broker allows a peer.
@@ -45,7 +46,7 @@ impl Limits {
             lanes: 64,
             queued: 65_536,
             queued_weight: 268_435_456,
-            tickets: 2_048,
+            tickets: 65_536,
             file: 4_294_967_296,
             out_pieces: 4_096,
             out_octets: 8_388_608,
@@ -53,6 +54,26 @@ impl Limits {
             lease: 7_500,
             busy_lease: 60_000,
         }
+    }
+
+    /// Whether no limit is above what the broker allows a peer or a peer the broker.
+    pub fn are_lawful(&self) -> bool
+        ensures { result ≡ LawfulLimits.are_lawful self.now }
+    {
+        let most = Limits::peer();
+        self.frames <= most.frames
+            && self.message <= most.message
+            && self.command <= most.command
+            && self.lanes <= most.lanes
+            && self.queued <= most.queued
+            && self.queued_weight <= most.queued_weight
+            && self.tickets <= most.tickets
+            && self.file <= most.file
+            && self.out_pieces <= most.out_pieces
+            && self.out_octets <= most.out_octets
+            && self.interval <= most.interval
+            && self.lease <= most.lease
+            && self.busy_lease <= most.busy_lease
     }
 
     /// What a peer allows the broker, which may add two frames and 246 bytes to a body that it passes on;

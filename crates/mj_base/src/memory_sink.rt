@@ -10,6 +10,7 @@ pub struct MemorySink {
     calls: u64,
     failing: Vec<u64>,
     faults: u64,
+    wants: u64,
 }
 
 impl MemorySink {
@@ -18,12 +19,14 @@ impl MemorySink {
     pub fn new(alloc: Global, failing: Vec<u64>) -> MemorySink
         ensures written { ⟦<MemorySink as Sink>⟧.written result ≡ Some [] }
         ensures faults { ⟦<MemorySink as Sink>⟧.faults result ≡ 0 }
+        ensures wants { ⟦<MemorySink as Sink>⟧.wants result ≡ 0 }
     {
         MemorySink {
             octets: Octets::new(alloc),
             calls: 0,
             failing,
             faults: 0,
+            wants: 0,
         }
     }
 
@@ -40,6 +43,8 @@ impl Sink for MemorySink {
 
     ghost faults = { λ s. s.faults };
 
+    ghost wants = { λ s. s.wants };
+
     fn write(&mut self, octets: &[u8]) -> WriteAnswer {
         let call = self.calls;
         self.calls = call.saturating_add(1);
@@ -49,7 +54,10 @@ impl Sink for MemorySink {
         }
         match self.octets.push_all(octets) {
             Ok(()) => WriteAnswer::Done,
-            Err(_) => WriteAnswer::NoMemory,
+            Err(_) => {
+                self.wants = self.wants.saturating_add(1);
+                WriteAnswer::NoMemory
+            }
         }
     }
 }

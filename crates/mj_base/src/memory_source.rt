@@ -52,7 +52,7 @@ impl Source for MemorySource {
 }
 
 /// Copies as many bytes as both have room for, and says how many.
-fn copy_front(from: &[u8], into: &mut [u8]) -> usize
+pub(crate) fn copy_front(from: &[u8], into: &mut [u8]) -> usize
     ensures count { result ≡ min (length from.now) (length into.old) }
     ensures copied { take result into.new ≡ take result from.now }
 {

@@ -1,4 +1,5 @@
-ghost use Rattle.std.specs.Prelude.{◌≡◌, ◌==◌, [], ◌++◌, length, take, OnOk, OnErr};
+ghost use Rattle.std.specs.Prelude.{◌≡◌, ◌==◌, [], ◌++◌, length, take, OnOk, OnErr, IfOk};
+ghost use Rattle.mj_base.specs.KeptWeight.{weight_of_octets};
 
 use super::NoMemory;
 use std::alloc::Global;
@@ -27,6 +28,22 @@ impl Octets {
         }
     }
 
+    /// The bytes of a vector, which keeps the room that it has.
+    pub fn from_vec(bytes: Vec<u8>) -> Octets
+        ensures { result ≡ bytes.items }
+    {
+        Octets { bytes }
+    }
+
+    /// A copy of these bytes, in just the room that they need.
+    pub fn copy_of(alloc: Global, bytes: &[u8]) -> Result<Octets, NoMemory>
+        ensures { IfOk result (λ octets. octets ≡ bytes.now) }
+    {
+        Ok(Octets {
+            bytes: Vec::from_slice(alloc, bytes)?,
+        })
+    }
+
     /// Appends these bytes. Without memory nothing is appended.
     pub fn push_all(&mut self, more: &[u8]) -> Result<(), NoMemory>
         ensures ok { OnOk result (self.new ≡ self.old ++ more.now) }
@@ -53,6 +70,13 @@ impl Octets {
         ensures { result ≡ (length self.now == 0) }
     {
         self.bytes.is_empty()
+    }
+
+    /// What they count in a bound on memory: a byte is 1.
+    pub fn weight(&self) -> u64
+        ensures { result ≡ weight_of_octets self.now }
+    {
+        self.bytes.len() as u64
     }
 
     /// Keeps the first `len` bytes, or all where there are fewer.

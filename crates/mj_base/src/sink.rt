@@ -1,5 +1,5 @@
 ghost use Rattle.std.specs.Prelude.{List, ℕ, Option, ◌≤◌};
-ghost use Rattle.mj_base.specs.Writing.{WriteAdds, WriteCause};
+ghost use Rattle.mj_base.specs.Writing.{WriteAdds, WriteCause, WantCause};
 
 /// What became of a write.
 #[derive(Clone, Copy, Debug, PartialEq, Eq)]
@@ -20,8 +20,13 @@ pub trait Sink {
     /// How many writes have failed. It never falls, and stops at its greatest value.
     ghost faults: { Self → ℕ };
 
+    /// How many writes had no memory. It counts as the faults do.
+    ghost wants: { Self → ℕ };
+
     fn write(&mut self, octets: &[u8]) -> WriteAnswer
         ensures octets { WriteAdds (written self.old) (written self.new) result octets.now }
         ensures later { faults self.old ≤ faults self.new }
-        ensures cause { WriteCause (faults self.old) (faults self.new) result };
+        ensures cause { WriteCause (faults self.old) (faults self.new) result }
+        ensures wants_later { wants self.old ≤ wants self.new }
+        ensures want { WantCause (wants self.old) (wants self.new) result };
 }

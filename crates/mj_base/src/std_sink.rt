@@ -21,6 +21,8 @@ impl<W: Write> Sink for StdSink<W> {
 
     ghost faults = { λ s. s.faults };
 
+    ghost wants = { λ _. 0 };
+
     /// A writer that takes nothing of a piece that isn't empty has failed.
     fn write(&mut self, octets: &[u8]) -> WriteAnswer {
         match self.writer.write_all(octets) {

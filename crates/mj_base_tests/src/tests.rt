@@ -1,6 +1,6 @@
-use super::{
-    Frames, Limits, MemorySink, MemorySource, Name, Octets, ReadAnswer, Sink, Source, StdSink,
-    StdSource, WriteAnswer,
+use mj_base::{
+    Frames, Limits, Link, LinkAnswer, LinkEvent, LinkWrite, MemorySink, MemorySource, Name, Note,
+    Octets, Out, ReadAnswer, ScriptLink, Sink, Source, StdSink, StdSource, WriteAnswer,
 };
 use std::alloc::Global;
 use std::collections::VecDeque;
@@ -23,6 +23,7 @@ fn frames_keep_their_bytes_and_count_them(rt: HostRuntime) -> Result<(), Fail> {
     assert_eq!(rt; copy.octets(), 6);
     assert!(rt; copy.get(1) == Some(b"MDPC01".as_slice()));
     assert!(rt; copy.get(2).is_none());
+    assert_eq!(rt; copy.weight(), 70);
     let tail = copy.copy_from(1)?;
     assert_eq!(rt; tail.len(), 1);
     assert!(rt; tail.get(0) == Some(b"MDPC01".as_slice()));
@@ -38,6 +39,9 @@ fn octets_grow_and_are_cut(rt: HostRuntime) -> Result<(), Fail> {
     assert_eq!(rt; octets.len(), 2);
     octets.clear();
     assert!(rt; octets.is_empty());
+    let copy = Octets::copy_of(rt.alloc(), b"ab")?;
+    assert!(rt; copy.as_slice() == b"ab".as_slice());
+    assert_eq!(rt; Octets::from_vec(vec![in rt.alloc(); 7, 8]?).weight(), 2);
     Ok(())
 }
 
@@ -115,4 +119,71 @@ fn readers_and_writers_are_sources_and_sinks(rt: HostRuntime) -> Result<(), Fail
 fn a_peer_allows_more_than_the_broker(rt: HostRuntime) {
     assert_eq!(rt; Limits::standard().frames, 256);
     assert_eq!(rt; Limits::peer().message, 1_049_600);
+    assert_eq!(rt; Limits::standard().tickets, 65_536);
+}
+
+#[test]
+fn limits_above_the_largest_are_not_lawful(rt: HostRuntime) {
+    let standard = Limits::standard();
+    for (limits, fine) in [
+        (standard, true),
+        (Limits::peer(), true),
+        (
+            Limits {
+                frames: 261,
+                ..standard
+            },
+            false,
+        ),
+        (
+            Limits {
+                tickets: 65_537,
+                ..standard
+            },
+            false,
+        ),
+        (
+            Limits {
+                busy_lease: 60_001,
+                ..standard
+            },
+            false,
+        ),
+    ] {
+        assert_eq!(rt; limits.are_lawful(), fine, "{limits:?}");
+    }
+}
+
+#[test]
+fn a_script_link_gives_its_events_and_keeps_what_is_written(rt: HostRuntime) -> Result<(), Fail> {
+    let events = vec![in rt.alloc();
+        LinkEvent::Given(Octets::copy_of(rt.alloc(), b"abc")?),
+        LinkEvent::End,
+        LinkEvent::Given(Octets::copy_of(rt.alloc(), b"d")?),
+    ]?;
+    let mut link = ScriptLink::new(rt.alloc(), events, vec![in rt.alloc(); 1, 4]?);
+    let mut into = [0; 2];
+    assert_eq!(rt; link.read(&mut into), LinkAnswer::Got(2));
+    assert_eq!(rt; into, *b"ab");
+    assert_eq!(rt; link.read(&mut into), LinkAnswer::Failed);
+    assert_eq!(rt; link.read(&mut into), LinkAnswer::Got(1));
+    assert_eq!(rt; link.read(&mut into), LinkAnswer::End);
+    assert_eq!(rt; link.write(b"x"), LinkWrite::Failed);
+    assert_eq!(rt; link.write(b"y"), LinkWrite::Done);
+    assert!(rt; link.reopen().is_ok());
+    assert_eq!(rt; link.read(&mut into), LinkAnswer::Got(1));
+    assert_eq!(rt; link.read(&mut into), LinkAnswer::Idle);
+    assert_eq!(rt; link.write(b"z"), LinkWrite::Done);
+    assert!(rt; link.written() == b"yz".as_slice());
+    Ok(())
+}
+
+#[test]
+fn a_note_is_an_out_to_no_lane(rt: HostRuntime) {
+    assert!(rt;
+        matches!(
+            Out::Note(Note::Again(2, true)),
+            Out::Note(Note::Again(2, true))
+        )
+    );
 }
