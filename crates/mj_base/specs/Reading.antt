@@ -1,7 +1,7 @@
 -- What one read does to what a source has left, where it tells, and to its count of faults.
-use Rattle.std.specs.Prelude.{ℕ, ◌<◌, ◌≤◌, List, length, take, Option, ⊤}
+use Rattle.std.specs.Prelude.{ℕ, ◌≡◌, ◌<◌, ◌≤◌, List, length, take, Option, ⊤}
 use Rattle.std.specs.Io.KnownBytes.{Keeps, Consumes, IsAtEnd}
-use Rattle.mj_base.specs.Rising.{Rose}
+use Rattle.mj_base.specs.Rising.{Rose, risen}
 use Rattle.mj_base.specs.declared.source.ReadAnswer.{ReadAnswer}
 use Rattle.mj_base.specs.declared.source.ReadAnswer.TheVariants.{Got, End, Failed}
 
@@ -16,3 +16,9 @@ abbrev pub ReadCause : ℕ → ℕ → ReadAnswer → Type 0
 ReadCause before now (Got n) = ⊤
 ReadCause before now End = ⊤
 ReadCause before now Failed = Rose before now
+
+-- a read that gave nothing is one more of those
+abbrev pub ReadMisses : ℕ → ℕ → ReadAnswer → Type 0
+ReadMisses before now (Got n) = now ≡ before
+ReadMisses before now End = now ≡ risen before
+ReadMisses before now Failed = now ≡ risen before

@@ -10,6 +10,9 @@ pub struct MemorySource {
     calls: u64,
     failing: Vec<u64>,
     faults: u64,
+    /// Where the last read began.
+    last: usize,
+    misses: u64,
     ghost inside: { at ≤ length octets },
 }
 
@@ -18,6 +21,7 @@ impl MemorySource {
     pub fn new(octets: Octets, failing: Vec<u64>) -> MemorySource
         ensures left { ⟦<MemorySource as Source>⟧.left result ≡ Some octets }
         ensures faults { ⟦<MemorySource as Source>⟧.faults result ≡ 0 }
+        ensures misses { ⟦<MemorySource as Source>⟧.misses result ≡ 0 }
     {
         MemorySource {
             octets,
@@ -25,6 +29,8 @@ impl MemorySource {
             calls: 0,
             failing,
             faults: 0,
+            last: 0,
+            misses: 0,
         }
     }
 }
@@ -34,15 +40,22 @@ impl Source for MemorySource {
 
     ghost faults = { λ s. s.faults };
 
+    ghost last = { λ s. Some (drop s.last s.octets) };
+
+    ghost misses = { λ s. s.misses };
+
     fn read(&mut self, into: &mut [u8]) -> ReadAnswer {
         let call = self.calls;
         self.calls = call.saturating_add(1);
+        self.last = self.at;
         if self.failing.contains(&call) {
             self.faults = self.faults.saturating_add(1);
+            self.misses = self.misses.saturating_add(1);
             return ReadAnswer::Failed;
         }
         let rest = self.octets.as_slice().split_at(self.at).1;
         if rest.is_empty() {
+            self.misses = self.misses.saturating_add(1);
             return ReadAnswer::End;
         }
         let count = copy_front(rest, into);

@@ -1,5 +1,5 @@
-ghost use Rattle.std.specs.Prelude.{List, ℕ, Option, ◌<◌, ◌≤◌, length};
-ghost use Rattle.mj_base.specs.Reading.{ReadTakes, ReadCause};
+ghost use Rattle.std.specs.Prelude.{List, ℕ, Option, ◌≡◌, ◌<◌, ◌≤◌, length};
+ghost use Rattle.mj_base.specs.Reading.{ReadTakes, ReadCause, ReadMisses};
 
 /// What a read gave.
 #[derive(Clone, Copy, Debug, PartialEq, Eq)]
@@ -20,10 +20,18 @@ pub trait Source {
     /// How many reads have failed. It never falls, and stops at its greatest value.
     ghost faults: { Self → ℕ };
 
+    /// What was left when the last read began, where the source tells.
+    ghost last: { Self → Option (List ℕ) };
+
+    /// How many reads gave nothing: the end, or a failure. It stops at its greatest value.
+    ghost misses: { Self → ℕ };
+
     /// Reads the next bytes into the front of `into`, which isn't empty.
     fn read(&mut self, into: &mut [u8]) -> ReadAnswer
         requires { 0 < length into.old }
         ensures octets { ReadTakes (left self.old) (left self.new) result into.new }
         ensures later { faults self.old ≤ faults self.new }
-        ensures cause { ReadCause (faults self.old) (faults self.new) result };
+        ensures cause { ReadCause (faults self.old) (faults self.new) result }
+        ensures last { last self.new ≡ left self.old }
+        ensures misses { ReadMisses (misses self.old) (misses self.new) result };
 }

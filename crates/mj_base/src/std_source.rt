@@ -9,11 +9,16 @@ use std::io::{ErrorKind, Read};
 pub struct StdSource<R> {
     reader: R,
     faults: u64,
+    misses: u64,
 }
 
 impl<R: Read> StdSource<R> {
     pub fn new(reader: R) -> StdSource<R> {
-        StdSource { reader, faults: 0 }
+        StdSource {
+            reader,
+            faults: 0,
+            misses: 0,
+        }
     }
 }
 
@@ -22,12 +27,20 @@ impl<R: Read> Source for StdSource<R> {
 
     ghost faults = { λ s. s.faults };
 
+    ghost last = { λ _. None };
+
+    ghost misses = { λ s. s.misses };
+
     fn read(&mut self, into: &mut [u8]) -> ReadAnswer {
         match read_through_signals(&mut self.reader, into) {
-            Ok(0) => ReadAnswer::End,
+            Ok(0) => {
+                self.misses = self.misses.saturating_add(1);
+                ReadAnswer::End
+            }
             Ok(count) => ReadAnswer::Got(count),
             Err(_) => {
                 self.faults = self.faults.saturating_add(1);
+                self.misses = self.misses.saturating_add(1);
                 ReadAnswer::Failed
             }
         }

@@ -3,7 +3,8 @@ use Rattle.std.proofs.Common.{◌≡◌, ℕ, zero, suc, ◌+◌, ◌<◌, ◌�
 use Rattle.std.specs.List.{filter, sum_by}
 use Rattle.std.proofs.lemmas.List.Sums.{sum_by-cons}
 use Rattle.mj_queue.specs.declared.request.Request.{Request}
-use Rattle.mj_queue.specs.Settling.{is_of_client, queued_weight, weight_of}
+use Rattle.mj_base.specs.KeptWeight.{weight_of}
+use Rattle.mj_queue.specs.Settling.{is_of_client, queued_weight}
 
 pub queued_weight-cons : (r : Request) (rs : List Request) → queued_weight (r ∷ rs) ≡ cond (is_of_client r.origin) (weight_of r.body) 0 + queued_weight rs
 queued_weight-cons r rs =

@@ -1,9 +1,10 @@
 -- Which request goes to which worker, and how many requests may wait (the ZeroMQ guide, chapter 4: a request goes to
 -- the worker that has waited longest).
-use Rattle.std.specs.Prelude.{ℕ, ◌+◌, ◌*◌, ◌==◌, nat_le, nat_lt, Bool, true, false, not, ◌&&◌, ◌||◌, if◌then◌else◌, List, [], ◌∷◌, length, sum_by, count_by, Option, None, Some}
+use Rattle.std.specs.Prelude.{ℕ, ◌+◌, ◌==◌, nat_le, nat_lt, Bool, true, false, not, ◌&&◌, ◌||◌, if◌then◌else◌, List, [], ◌∷◌, length, sum_by, count_by, Option, None, Some}
 use Rattle.std.specs.Option.{option_map}
 use Rattle.std.specs.List.{filter, list_any}
 use Rattle.std.specs.Str.{bytes_eq}
+use Rattle.mj_base.specs.KeptWeight.{weight_of}
 use Rattle.mj_base.specs.declared.limits.Limits.{Limits}
 use Rattle.mj_queue.specs.declared.request.Origin.{Origin}
 use Rattle.mj_queue.specs.declared.request.Origin.TheVariants.{Client, Ticket}
@@ -59,10 +60,6 @@ is_client n (Ticket m) = false
 abbrev pub is_ticket : ℕ → Origin → Bool
 is_ticket n (Client m) = false
 is_ticket n (Ticket m) = m == n
-
--- the bytes of a body, and 32 for each of its frames
-abbrev pub weight_of : List (List ℕ) → ℕ
-weight_of body = sum_by length body + 32 * length body
 
 -- how many client requests wait, and what they weigh together
 abbrev pub queued : List Request → ℕ

@@ -1,6 +1,6 @@
 ghost use Rattle.std.specs.Prelude.{◌≡◌, ◌+◌, ◌-◌, ◌≤◌, nat_le, SomeIff};
+ghost use Rattle.mj_base.specs.KeptWeight.{weight_of};
 ghost use Rattle.mj_queue.specs.Settling;
-ghost use Rattle.mj_queue.specs.Settling.{weight_of};
 
 use super::Request;
 use super::places::is_of_client;

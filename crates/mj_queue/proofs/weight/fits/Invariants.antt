@@ -1,5 +1,6 @@
 use Rattle.std.proofs.Common.{drop}
-use Rattle.mj_queue.specs.Settling.{queued_weight, weight_of}
+use Rattle.mj_base.specs.KeptWeight.{weight_of}
+use Rattle.mj_queue.specs.Settling.{queued_weight}
 use Rattle.mj_queue.proofs.WeightLemmas.{Decides}
 use Rattle.mj_queue.proofs.weight.fits.Given as goal
 
