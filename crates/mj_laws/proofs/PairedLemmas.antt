@@ -5,7 +5,7 @@ use Rattle.std.specs.Str.{bytes_eq}
 use Rattle.mj_base.specs.ServiceName.{is_reserved}
 use Rattle.mj_base.specs.declared.event.Event.{Event}
 use Rattle.mj_base.specs.declared.event.Out.{Out}
-use Rattle.mj_base.specs.declared.event.Out.TheVariants.{End, Piece}
+use Rattle.mj_base.specs.declared.event.Out.TheVariants.{End, Note, Piece}
 use Rattle.mj_base.specs.declared.limits.Limits.{Limits}
 use Rattle.mj_base.specs.declared.reason.Reason.{Reason}
 use Rattle.mj_base.specs.declared.reason.Reason.TheVariants.{QueueFull}
@@ -49,6 +49,7 @@ use Rattle.mj_laws.proofs.TextLemmas.{disconnect-no_request, greeting-no_request
 abbrev IsNoRequest : Out → Type 0
 IsNoRequest (Piece lane octets) = IsRequest octets → ⊥
 IsNoRequest (End lane reason at) = Unit {0}
+IsNoRequest (Note note) = Unit {0}
 
 abbrev Quiet : List Out → Type 0
 Quiet outs = AllByRecursion IsNoRequest outs
@@ -181,6 +182,7 @@ from-quiet t outs all = all-map IsNoRequest (IsPaired t) one outs all
     one : (out : Out) → IsNoRequest out → IsPaired t out
     one (Piece lane octets) no_request = λ request. absurd (no_request request)
     one (End lane reason at) no_request = tt
+    one (Note note) no_request = tt
 
 paired-acts : (cause : Cause) (s : State) → AllByRecursion (IsPaired (step_of cause s)) (acts cause s).1
 paired-acts (Closing lane) s = tt

@@ -4,7 +4,7 @@ use Rattle.std.specs.List.{AllByRecursion}
 use Rattle.mj_base.specs.ServiceName.{is_reserved}
 use Rattle.mj_base.specs.declared.event.Event.{Event}
 use Rattle.mj_base.specs.declared.event.Out.{Out}
-use Rattle.mj_base.specs.declared.event.Out.TheVariants.{End, Piece}
+use Rattle.mj_base.specs.declared.event.Out.TheVariants.{End, Note, Piece}
 use Rattle.mj_base.specs.declared.limits.Limits.{Limits}
 use Rattle.mj_client_cmd.specs.ClientWriting.{reply_frames}
 use Rattle.mj_client_cmd.specs.declared.command.ClientCmd.{ClientCmd}
@@ -59,6 +59,7 @@ pub record IsOwnAnswer (lane : ℕ) (octets : List ℕ) (t : Step) : Type 0 wher
 abbrev pub IsExplained : Step → Out → Type 0
 IsExplained t (Piece lane octets) = IsReply octets → IsOwned lane octets t ⊎ IsOwnAnswer lane octets t
 IsExplained t (End lane reason at) = Unit {0}
+IsExplained t (Note note) = Unit {0}
 
 abbrev pub RepliesAreOwned : Limits → List Event → Type 0
 RepliesAreOwned limits events = AllByRecursion (λ t. AllByRecursion (IsExplained t) t.outs) (run_steps limits (start limits) events)

@@ -3,7 +3,7 @@ use Rattle.std.specs.Prelude.{ℕ, ◌≡◌, ◌⊎◌, Bool, true, false, List
 use Rattle.std.specs.List.{AllByRecursion}
 use Rattle.mj_base.specs.declared.event.Event.{Event}
 use Rattle.mj_base.specs.declared.event.Out.{Out}
-use Rattle.mj_base.specs.declared.event.Out.TheVariants.{End, Piece}
+use Rattle.mj_base.specs.declared.event.Out.TheVariants.{End, Note, Piece}
 use Rattle.mj_base.specs.declared.limits.Limits.{Limits}
 use Rattle.mj_wire.specs.declared.item.WireItem.TheVariants.{Message}
 use Rattle.mj_queue.specs.Settling.{Pair}
@@ -95,6 +95,7 @@ pub record IsHandedOver (lane : ℕ) (octets : List ℕ) (t : Step) : Type 0 whe
 abbrev pub IsPaired : Step → Out → Type 0
 IsPaired t (Piece lane octets) = IsRequest octets → IsHandedOver lane octets t
 IsPaired t (End lane reason at) = Unit {0}
+IsPaired t (Note note) = Unit {0}
 
 abbrev pub RequestsArePaired : Limits → List Event → Type 0
 RequestsArePaired limits events = AllByRecursion (λ t. AllByRecursion (IsPaired t) t.outs) (run_steps limits (start limits) events)

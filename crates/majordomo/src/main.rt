@@ -1,34 +1,12 @@
-//! The program: its words, scripts of events, and what a run of the broker prints.
+//! The program: hands its words and the standard streams to the tool, and exits with its status.
 #![tactic(auto)]
 
-mod act;
-mod finish;
-mod front;
-mod line;
-mod meaning;
-mod next;
-mod number;
-mod print;
-mod progress;
-mod read;
-#[cfg(test)]
-mod routed_runs;
-mod run;
-mod status;
-#[cfg(test)]
-mod tests;
-mod tool;
-mod turn;
-mod words;
-#[cfg(test)]
-mod worked_runs;
-
 use mj_base::{StdSink, StdSource};
+use mj_prog::tool;
 use std::alloc::Global;
 use std::io::{ErrorKind, Read, Write};
 use std::process::ExitCode;
 use std::{env, io};
-pub use tool::tool;
 
 fn main(rt: HostRuntime) -> ExitCode {
     let source = rt.reader();

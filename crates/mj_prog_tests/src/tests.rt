@@ -1,5 +1,5 @@
-use super::tool;
 use mj_base::{MemorySink, MemorySource, Octets};
+use mj_prog::tool;
 use std::alloc::{AllocError, Global};
 use std::test::Fail;
 

@@ -1,0 +1,20 @@
+//! What the program's words do: scripts of events, and what a run of the broker prints.
+#![tactic(auto)]
+
+mod act;
+mod finish;
+mod front;
+mod line;
+mod meaning;
+mod next;
+mod number;
+mod print;
+mod progress;
+mod read;
+mod run;
+mod status;
+mod tool;
+mod turn;
+mod words;
+
+pub use tool::tool;
