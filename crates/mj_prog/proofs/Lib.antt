@@ -12,3 +12,4 @@ pub mod Pieces
 pub mod Spelling
 pub mod OptionLaws
 pub mod RunLaws
+pub mod ReadingStops

@@ -5,12 +5,13 @@ use Rattle.std.proofs.lemmas.List.{length-take-le}
 use Rattle.std.specs.Io.KnownBytes.{Appends, Keeps}
 use Rattle.std.proofs.KnownBytes.{Appends-trans, Appends-kept}
 use Rattle.mj_base.specs.Rising.{Rose}
-use Rattle.mj_base.specs.Writing.{AppendsFront, WriteAdds, WriteCause}
+use Rattle.mj_base.specs.Writing.{AppendsFront, WriteAdds, WriteCause, WantCause}
 use Rattle.mj_base.specs.declared.event.Out.{Out}
 use Rattle.mj_base.specs.declared.sink.WriteAnswer.{WriteAnswer}
 use Rattle.mj_base.specs.declared.sink.WriteAnswer.TheVariants as writes
 use Rattle.mj_prog.specs.Shown.{shown, line_of_out}
 use Rattle.mj_prog.specs.ReplayTable.{AppendsLine}
+use Rattle.mj_prog.specs.SinkCounts.{SinkCounts, AreLater}
 
 pub shown-append : (first second : List Out) → shown (first ++ second) ≡ shown first ++ shown second
 shown-append [] second = refl
@@ -41,12 +42,13 @@ pub rose-until : (a b c : ℕ) → Rose a b → b ≤ c → Rose a c
 rose-until a b c rose last = omega arith
 
 -- a last line is written, or isn't
-pub line-behind : (old mid new : Option (List ℕ)) (before m n : ℕ) (bytes line : List ℕ) (answer : WriteAnswer) → before ≤ m
-    → Appends old mid bytes → WriteAdds mid new answer line → WriteCause m n answer → AppendsLine old new before n bytes line
-line-behind old mid new before m n bytes line writes.Done first added adds cause = inl (Appends-trans old mid new bytes line added adds)
-line-behind old mid new before m n bytes line writes.NoMemory first added adds cause = inr (inl (Appends-kept old mid new bytes added adds))
-line-behind old mid new before m n bytes line writes.Failed first added adds cause =
-    inr (inr (rose-from before m n first cause, (adds.0, Appends-trans old mid new bytes (take adds.0 line) added adds.1)))
+pub line-behind : (old mid new : Option (List ℕ)) (before m n : SinkCounts) (bytes line : List ℕ) (answer : WriteAnswer) → AreLater before m
+    → Appends old mid bytes → WriteAdds mid new answer line → WriteCause m.faults n.faults answer → WantCause m.wants n.wants answer → AppendsLine old new before n bytes line
+line-behind old mid new before m n bytes line writes.Done first added adds cause want = inl (Appends-trans old mid new bytes line added adds)
+line-behind old mid new before m n bytes line writes.NoMemory first added adds cause want =
+    inr (inl (rose-from before.wants m.wants n.wants first.wants want, Appends-kept old mid new bytes added adds))
+line-behind old mid new before m n bytes line writes.Failed first added adds cause want =
+    inr (inr (rose-from before.faults m.faults n.faults first.faults cause, (adds.0, Appends-trans old mid new bytes (take adds.0 line) added adds.1)))
 
 -- the next of the outs stands behind those before it
 outs-next : (outs : List Out) (i : ℕ) (out : Out) → i < length outs → out ≡ get_or outs i out → outs ≡ take i outs ++ out ∷ drop (suc i) outs

@@ -8,8 +8,9 @@ use Rattle.mj_base.specs.declared.sink.WriteAnswer.TheVariants as writes
 use Rattle.mj_prog.specs.declared.turn.Halt.TheVariants as halts
 use Rattle.mj_prog.specs.Script.{Ending, WithText, AtStop, AtUnlawful, IsLawful, script}
 use Rattle.mj_prog.specs.Shown.{done_line}
-use Rattle.mj_prog.specs.ReplayTable.{IsInput, IsCutOff, printed, output, last_line}
+use Rattle.mj_prog.specs.ReplayTable.{IsInput, IsCutOff, IsUnwritten, printed, output, last_line}
 use Rattle.mj_prog.specs.Running.{IsHalted}
+use Rattle.mj_prog.specs.SinkCounts.{SinkCounts, AreLater}
 use Rattle.mj_prog.specs.StatusRows.{IsRow, status_after}
 use Rattle.mj_prog.proofs.Inputs.{text-reading}
 use Rattle.mj_prog.proofs.Printing.{front-of, front-behind, rose-from}
@@ -26,20 +27,20 @@ done-output lanes text events lawful count =
     ap (λ (line : List ℕ). printed lanes text ++ line) (lawful-last (script lanes text).ending (length (script lanes text).events) lawful ∙ ap done_line (sym count))
 
 -- a run to the script's end whose last line was written, or wasn't
-pub row-written : (lanes reads_before reads_now writes_before m n : ℕ) (from left old mid new : Option (List ℕ)) (events : ℕ) (answer : WriteAnswer) → writes_before ≤ m
-    → IsHalted from left lanes old mid events halts.Over → WriteAdds mid new answer (done_line events) → WriteCause m n answer
+pub row-written : (lanes reads_before reads_now : ℕ) (writes_before m n : SinkCounts) (from left old mid new : Option (List ℕ)) (events : ℕ) (answer : WriteAnswer) → AreLater writes_before m
+    → IsHalted from left lanes old mid events halts.Over → WriteAdds mid new answer (done_line events) → WriteCause m.faults n.faults answer
     → IsRow lanes from left reads_before reads_now old new writes_before n (status_after answer)
 row-written lanes reads_before reads_now writes_before m n from left old mid new events writes.Done first halted adds cause =
     (halted.0, halted.1, halted.2, subst (Appends old new) (sym (done-output lanes halted.0 events halted.2 halted.3)) (Appends-trans old mid new (printed lanes halted.0) (done_line events) halted.4 adds))
 row-written lanes reads_before reads_now writes_before m n from left old mid new events writes.NoMemory first halted adds cause =
     (halted.0, halted.1, front-of old new (printed lanes halted.0) _ (output lanes halted.0) (Appends-kept old mid new (printed lanes halted.0) halted.4 adds) refl)
 row-written lanes reads_before reads_now writes_before m n from left old mid new events writes.Failed first halted adds cause = (
-  rose-from writes_before m n first cause,
+  rose-from writes_before.faults m.faults n.faults first.faults cause,
   (
     halted.0,
     halted.1,
-    front-behind old mid new (printed lanes halted.0) (done_line events) [] (output lanes halted.0) halted.4 adds
-        (done-output lanes halted.0 events halted.2 halted.3 ∙ ap (λ (line : List ℕ). printed lanes halted.0 ++ line) (sym (append-nil (done_line events)))),
+    front-behind old mid new (printed lanes halted.0) (done_line events) [] (printed lanes halted.0 ++ done_line (length (script lanes halted.0).events)) halted.4 adds
+        (ap (λ (n : ℕ). printed lanes halted.0 ++ done_line n) (sym halted.3) ∙ ap (λ (line : List ℕ). printed lanes halted.0 ++ line) (sym (append-nil (done_line events)))),
   ),
 )
 
@@ -47,7 +48,16 @@ pub row-unwritten : (lanes : ℕ) (from left old new : Option (List ℕ)) (event
 row-unwritten lanes from left old new events halted =
     (halted.0, halted.1, front-of old new (printed lanes halted.0) _ (output lanes halted.0) halted.4 refl)
 
--- a front of what the outs print is one of all that is printed
+-- a front of what the outs print is one of all that is printed, with `done N` behind it too
+pub row-failed : (lanes : ℕ) (from old new : Option (List ℕ)) → ((text : List ℕ) × IsInput from text × AppendsFront old new (printed lanes text)) → IsUnwritten lanes from old new
+row-failed lanes from old new front =
+    (front.0, front.1, front-behind old old new [] (printed lanes front.0) _ _ (Appends-nil old) front.2 refl)
+
+-- the line of an unlawful line was written, or there was no memory to make it
+pub row-unmade : (lanes : ℕ) (from left old new : Option (List ℕ)) (events number : ℕ) → IsHalted from left lanes old new events (halts.Line number) → IsCutOff lanes from old new
+row-unmade lanes from left old new events number halted =
+    (halted.0, halted.1, front-of old new (printed lanes halted.0) _ (output lanes halted.0) halted.3 refl)
+
 pub row-front : (lanes : ℕ) (from old new : Option (List ℕ)) → ((text : List ℕ) × IsInput from text × AppendsFront old new (printed lanes text)) → IsCutOff lanes from old new
 row-front lanes from old new front =
     (front.0, front.1, front-behind old old new [] (printed lanes front.0) _ (output lanes front.0) (Appends-nil old) front.2 refl)

@@ -7,6 +7,7 @@ use Rattle.mj_prog.specs.declared.words.Options.{Options}
 use Rattle.mj_prog.specs.Script.{Ending, WithText, AtStop, AtUnlawful, IsLawful, script}
 use Rattle.mj_prog.specs.ReplayTable.{AnswersFor}
 use Rattle.mj_prog.specs.Statuses.{code_of}
+use Rattle.mj_prog.specs.SinkCounts.{SinkCounts}
 use Rattle.mj_prog.specs.StatusRows.{IsRow}
 
 -- a status is what its number says
@@ -62,9 +63,9 @@ memory-answers (AtStop number) = inr refl
 memory-answers (AtUnlawful number) = inr refl
 
 -- what a row leaves where nothing failed
-answers-row : (lanes : ℕ) (all : List ℕ) (left old new : Option (List ℕ)) (reads_before reads_now writes_before writes_now : ℕ) (s : Status)
+answers-row : (lanes : ℕ) (all : List ℕ) (left old new : Option (List ℕ)) (reads_before reads_now : ℕ) (writes_before writes_now : SinkCounts) (s : Status)
     → IsRow lanes (Some all) left reads_before reads_now old new writes_before writes_now s
-    → ¬ Rose reads_before reads_now → ¬ Rose writes_before writes_now → AnswersFor (script lanes (take (2 ^ 40) all)).ending (code_of s)
+    → ¬ Rose reads_before reads_now → ¬ Rose writes_before.faults writes_now.faults → AnswersFor (script lanes (take (2 ^ 40) all)).ending (code_of s)
 answers-row lanes all left old new reads_before reads_now writes_before writes_now statuses.Done row read written =
     subst (λ (text : List ℕ). AnswersFor (script lanes text).ending 0) row.1 (lawful-answers (script lanes row.0).ending row.2)
 answers-row lanes all left old new reads_before reads_now writes_before writes_now statuses.Words row read written = absurd row
@@ -75,16 +76,16 @@ answers-row lanes all left old new reads_before reads_now writes_before writes_n
 answers-row lanes all left old new reads_before reads_now writes_before writes_now statuses.Read row read written = absurd (read row.0)
 answers-row lanes all left old new reads_before reads_now writes_before writes_now statuses.Write row read written = absurd (written row.0)
 
-pub answers : (words : Option Options) (from left old new : Option (List ℕ)) (reads_before reads_now writes_before writes_now result : ℕ) (s : Status)
+pub answers : (words : Option Options) (from left old new : Option (List ℕ)) (reads_before reads_now : ℕ) (writes_before writes_now : SinkCounts) (result : ℕ) (s : Status)
     → IfSome words (λ options. IsRow options.lanes from left reads_before reads_now old new writes_before writes_now s) → result ≡ code_of s
-    → IfSome words (λ options. IfSome from (λ all. ¬ Rose reads_before reads_now → ¬ Rose writes_before writes_now → AnswersFor (script options.lanes (take (2 ^ 40) all)).ending result))
+    → IfSome words (λ options. IfSome from (λ all. ¬ Rose reads_before reads_now → ¬ Rose writes_before.faults writes_now.faults → AnswersFor (script options.lanes (take (2 ^ 40) all)).ending result))
 answers None from left old new reads_before reads_now writes_before writes_now result s rows e = tt
 answers (Some options) None left old new reads_before reads_now writes_before writes_now result s rows e = tt
 answers (Some options) (Some all) left old new reads_before reads_now writes_before writes_now result s rows e =
     λ read written. subst (AnswersFor (script options.lanes (take (2 ^ 40) all)).ending) (sym e) (answers-row options.lanes all left old new reads_before reads_now writes_before writes_now s rows read written)
 
 -- the row of a status that is known
-pub row-of : (words : Option Options) (from left old new : Option (List ℕ)) (reads_before reads_now writes_before writes_now result : ℕ) (s t : Status)
+pub row-of : (words : Option Options) (from left old new : Option (List ℕ)) (reads_before reads_now : ℕ) (writes_before writes_now : SinkCounts) (result : ℕ) (s t : Status)
     → IfSome words (λ options. IsRow options.lanes from left reads_before reads_now old new writes_before writes_now s) → result ≡ code_of s → result ≡ code_of t
     → IfSome words (λ options. IsRow options.lanes from left reads_before reads_now old new writes_before writes_now t)
 row-of words from left old new reads_before reads_now writes_before writes_now result s t rows e f =

@@ -9,3 +9,5 @@ pub mod ReadSoFar
 pub mod Running
 pub mod Statuses
 pub mod StatusRows
+pub mod SinkCounts
+pub mod Reads

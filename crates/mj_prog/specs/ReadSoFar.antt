@@ -6,7 +6,7 @@ use Rattle.std.specs.Io.KnownBytes.{Consumes, Keeps, IsAtEnd}
 use Rattle.mj_base.specs.declared.event.Event.{Event}
 use Rattle.mj_base.specs.declared.source.ReadAnswer.{ReadAnswer}
 use Rattle.mj_base.specs.declared.source.ReadAnswer.TheVariants as reads
-use Rattle.mj_base.specs.Rising.{Rose}
+use Rattle.mj_base.specs.Rising.{Rose, risen}
 use Rattle.mj_base.specs.EventBounds.{IsTakenBy}
 use Rattle.mj_prog.specs.declared.front.Front.{Front}
 use Rattle.mj_prog.specs.declared.front.Front.TheVariants as fronts
@@ -67,6 +67,13 @@ FillCause before now (filled.Got count) = ⊤
 FillCause before now filled.End = ⊤
 FillCause before now filled.Failed = Rose before now
 FillCause before now filled.NoMemory = ⊤
+
+-- a read that gave nothing is one more of those; without memory there was no read
+abbrev pub FillMisses : ℕ → ℕ → Filled → Type 0
+FillMisses before now (filled.Got count) = now ≡ before
+FillMisses before now filled.End = now ≡ risen before
+FillMisses before now filled.Failed = now ≡ risen before
+FillMisses before now filled.NoMemory = now ≡ before
 
 -- what the script says next, after these events
 abbrev pub IsNext : Option (List ℕ) → Option (List ℕ) → ℕ → List ℕ → ℕ → ℕ → List Event → Next → Type 0

@@ -7,6 +7,7 @@ use Rattle.mj_base.specs.StandardLimits.{standard_limits}
 use Rattle.mj_machine.specs.MachineState.{start}
 use Rattle.mj_machine.specs.MachineRun.{run_outs}
 use Rattle.mj_prog.specs.Script.{Ending, WithText, AtStop, AtUnlawful, script, IsLawful, ended_part}
+use Rattle.mj_prog.specs.SinkCounts.{SinkCounts}
 use Rattle.mj_prog.specs.Shown.{shown, done_line, fault_line, fault_read}
 
 -- the script's text: the first 2^40 bytes of what the source has, where it tells
@@ -27,10 +28,12 @@ last_line (AtUnlawful number) events = fault_line number
 abbrev pub output : ℕ → List ℕ → List ℕ
 output lanes text = printed lanes text ++ last_line (script lanes text).ending (length (script lanes text).events)
 
--- behind these bytes a line: whole; not at all, where there was no memory for it; or a front of it, where a write failed
-abbrev pub AppendsLine : Option (List ℕ) → Option (List ℕ) → ℕ → ℕ → List ℕ → List ℕ → Type 0
+-- behind these bytes a line: whole; not at all, where the sink wanted memory; or a front of it, where the write failed
+abbrev pub AppendsLine : Option (List ℕ) → Option (List ℕ) → SinkCounts → SinkCounts → List ℕ → List ℕ → Type 0
 AppendsLine old new before now bytes line =
-    Appends old new (bytes ++ line) ⊎ Appends old new bytes ⊎ (Rose before now × ((n : ℕ) × Appends old new (bytes ++ take n line)))
+    Appends old new (bytes ++ line)
+    ⊎ (Rose before.wants now.wants × Appends old new bytes)
+    ⊎ (Rose before.faults now.faults × ((n : ℕ) × Appends old new (bytes ++ take n line)))
 
 -- status 0: no line is unlawful, and all is printed
 abbrev pub IsDone : ℕ → Option (List ℕ) → Option (List ℕ) → Option (List ℕ) → Type 0
@@ -38,17 +41,22 @@ IsDone lanes from old new =
     (text : List ℕ) × IsInput from text × IsLawful (script lanes text).ending × Appends old new (output lanes text)
 
 -- status 2: line n is the first unlawful one, and all before it is printed
-abbrev pub IsRefused : ℕ → Option (List ℕ) → Option (List ℕ) → Option (List ℕ) → ℕ → ℕ → Type 0
+abbrev pub IsRefused : ℕ → Option (List ℕ) → Option (List ℕ) → Option (List ℕ) → SinkCounts → SinkCounts → Type 0
 IsRefused lanes from old new before now =
     (text : List ℕ) × (number : ℕ) × IsInput from text × ((script lanes text).ending ≡ AtUnlawful number)
     × AppendsLine old new before now (printed lanes text) (fault_line number)
 
--- statuses 4 and 7: a front of what another status prints
+-- status 4: a front of what 0 or 2 prints
 abbrev pub IsCutOff : ℕ → Option (List ℕ) → Option (List ℕ) → Option (List ℕ) → Type 0
 IsCutOff lanes from old new = (text : List ℕ) × IsInput from text × AppendsFront old new (output lanes text)
 
+-- status 7: a front of `P(all)` and `done N`
+abbrev pub IsUnwritten : ℕ → Option (List ℕ) → Option (List ℕ) → Option (List ℕ) → Type 0
+IsUnwritten lanes from old new =
+    (text : List ℕ) × IsInput from text × AppendsFront old new (printed lanes text ++ done_line (length (script lanes text).events))
+
 -- status 6: the whole lines that were read are all events, and what they give is printed
-abbrev pub IsUnread : ℕ → Option (List ℕ) → Option (List ℕ) → Option (List ℕ) → Option (List ℕ) → ℕ → ℕ → Type 0
+abbrev pub IsUnread : ℕ → Option (List ℕ) → Option (List ℕ) → Option (List ℕ) → Option (List ℕ) → SinkCounts → SinkCounts → Type 0
 IsUnread lanes from left old new before now =
     (read : List ℕ) × Consumes from left read × ((script lanes (ended_part read)).ending ≡ WithText)
     × AppendsLine old new before now (printed lanes (ended_part read)) fault_read

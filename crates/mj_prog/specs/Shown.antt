@@ -1,9 +1,11 @@
 -- The lines that are printed.
-use Rattle.std.specs.Prelude.{ℕ, List, [], ◌∷◌, ◌++◌, codes}
+use Rattle.std.specs.Prelude.{ℕ, true, false, List, [], ◌∷◌, ◌++◌, codes}
 use Rattle.std.specs.Fmt.{decimal}
 use Rattle.hex.specs.Hex.{encode_lower}
 use Rattle.mj_base.specs.declared.reason.Reason.{Reason}
 use Rattle.mj_base.specs.declared.reason.Reason.TheVariants as reasons
+use Rattle.mj_base.specs.declared.event.Note.{Note}
+use Rattle.mj_base.specs.declared.event.Note.TheVariants as notes
 use Rattle.mj_base.specs.declared.event.Out.{Out}
 use Rattle.mj_base.specs.declared.event.Out.TheVariants as outs
 
@@ -25,10 +27,17 @@ put_line lane digits = codes "put " ++ (decimal lane ++ (codes " " ++ (digits ++
 abbrev pub end_line : ℕ → List ℕ → ℕ → List ℕ
 end_line lane reason at = codes "end " ++ (decimal lane ++ (codes " " ++ (reason ++ (codes " " ++ (decimal at ++ codes "\n")))))
 
+-- `store shut K`; `store open K kept` where the command in doubt was found, `store open K plain` where it wasn't
+abbrev pub note_line : Note → List ℕ
+note_line (notes.Shut act) = codes "store shut " ++ (decimal act ++ codes "\n")
+note_line (notes.Again act true) = codes "store open " ++ (decimal act ++ codes " kept\n")
+note_line (notes.Again act false) = codes "store open " ++ (decimal act ++ codes " plain\n")
+
 -- `put L HEX` for a piece, `end L REASON AT` for an end
 abbrev pub line_of_out : Out → List ℕ
 line_of_out (outs.Piece lane piece) = put_line lane (encode_lower piece)
 line_of_out (outs.End lane reason at) = end_line lane (reason_word reason) at
+line_of_out (outs.Note note) = note_line note
 
 abbrev pub shown : List Out → List ℕ
 shown [] = []

@@ -15,6 +15,7 @@ pub fn act_on_line(alloc: Global, progress: &mut Progress, end: usize) -> Option
     ensures unread { (before now : ℕ) → StepCause before now result }
     ensures stands { (from now : Option (List ℕ)) (taken : List Event) → IsSoFar from now progress.old.lanes progress.old.pending.items progress.old.room progress.old.lines taken → IsStep from now progress.new.lanes progress.new.pending.items progress.new.room progress.new.lines taken result }
     ensures lanes { progress.new.lanes ≡ progress.old.lanes }
+    ensures room { progress.new.room ≡ progress.old.room }
     ensures taken { StepIsTaken progress.old.lanes result }
     ensures fewer { StepFewer progress.old progress.new result }
 {
@@ -28,6 +29,7 @@ pub fn act_on_last(alloc: Global, progress: &mut Progress) -> Option<Next>
     ensures unread { (before now : ℕ) → StepCause before now result }
     ensures stands { (from now : Option (List ℕ)) (taken : List Event) → IsSoFar from now progress.old.lanes progress.old.pending.items progress.old.room progress.old.lines taken → IsStep from now progress.new.lanes progress.new.pending.items progress.new.room progress.new.lines taken result }
     ensures lanes { progress.new.lanes ≡ progress.old.lanes }
+    ensures room { progress.new.room ≡ progress.old.room }
     ensures taken { StepIsTaken progress.old.lanes result }
     ensures fewer { StepFewer progress.old progress.new result }
 {

@@ -13,8 +13,8 @@ mod progress;
 mod read;
 mod run;
 mod status;
-mod tool;
+mod top_call;
 mod turn;
 mod words;
 
-pub use tool::tool;
+pub use top_call::tool;

@@ -1,5 +1,6 @@
 ghost use Rattle.std.specs.Prelude.{◌≡◌, ◌+◌, ◌<◌, ◌≤◌, ℕ, List, Option, length};
 ghost use Rattle.mj_prog.specs.ReadSoFar.{IsSoFar, IsNext, IsStep, StepCause, StepFewer, StepIsTaken, NextCause, NextIsTaken, next_cost};
+ghost use Rattle.mj_prog.specs.Reads.{ReadsNoFurther, StopsReading};
 ghost use Rattle.mj_base.specs.declared.event.Event.{Event};
 
 use super::act::{act_on_last, act_on_line};
@@ -29,6 +30,8 @@ pub fn read_next<S: Source>(alloc: Global, progress: &mut Progress, src: &mut S)
     ensures stands { (from : Option (List ℕ)) (taken : List Event) → IsSoFar from (S.left src.old) progress.old.lanes progress.old.pending.items progress.old.room progress.old.lines taken → IsNext from (S.left src.new) progress.new.lanes progress.new.pending.items progress.new.room progress.new.lines taken result }
     ensures lanes { progress.new.lanes ≡ progress.old.lanes }
     ensures later { S.faults src.old ≤ S.faults src.new }
+    ensures no_further { (from : Option (List ℕ)) (taken : List Event) → IsSoFar from (S.left src.old) progress.old.lanes progress.old.pending.items progress.old.room progress.old.lines taken → ReadsNoFurther progress.old.lanes from (S.last src.old) (S.last src.new) }
+    ensures misses { StopsReading progress.old.room progress.new.room (S.misses src.old) (S.misses src.new) }
     ensures cause { NextCause (S.faults src.old) (S.faults src.new) result }
     ensures taken { NextIsTaken progress.old.lanes result }
     ensures fewer { progress.new.room + length progress.new.pending.items + next_cost result ≤ progress.old.room + length progress.old.pending.items }
@@ -45,6 +48,8 @@ fn step<S: Source>(alloc: Global, progress: &mut Progress, src: &mut S) -> Optio
     ensures stands { (from : Option (List ℕ)) (taken : List Event) → IsSoFar from (S.left src.old) progress.old.lanes progress.old.pending.items progress.old.room progress.old.lines taken → IsStep from (S.left src.new) progress.new.lanes progress.new.pending.items progress.new.room progress.new.lines taken result }
     ensures lanes { progress.new.lanes ≡ progress.old.lanes }
     ensures later { S.faults src.old ≤ S.faults src.new }
+    ensures no_further { (from : Option (List ℕ)) (taken : List Event) → IsSoFar from (S.left src.old) progress.old.lanes progress.old.pending.items progress.old.room progress.old.lines taken → ReadsNoFurther progress.old.lanes from (S.last src.old) (S.last src.new) }
+    ensures misses { StopsReading progress.old.room progress.new.room (S.misses src.old) (S.misses src.new) }
     ensures cause { StepCause (S.faults src.old) (S.faults src.new) result }
     ensures taken { StepIsTaken progress.old.lanes result }
     ensures fewer { StepFewer progress.old progress.new result }

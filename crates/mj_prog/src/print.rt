@@ -7,7 +7,7 @@ ghost use Rattle.mj_prog.specs.Running.{Prints};
 ghost use Rattle.std.specs.Io.KnownBytes.{Keeps};
 ghost use Rattle.mj_base.specs.declared.sink.WriteAnswer;
 
-use mj_base::{NoMemory, Out, Reason, Sink, WriteAnswer};
+use mj_base::{NoMemory, Note, Out, Reason, Sink, WriteAnswer};
 use std::alloc::Global;
 
 /// Prints what the broker did, each on a line of its own.
@@ -15,6 +15,7 @@ pub fn print_outs<K: Sink>(alloc: Global, outs: &Vec<Out>, out: &mut K) -> Write
     ensures octets { Prints (K.written out.old) (K.written out.new) result (shown outs.now.items) }
     ensures later { K.faults out.old ≤ K.faults out.new }
     ensures cause { WriteCause (K.faults out.old) (K.faults out.new) result }
+    ensures wants_later { K.wants out.old ≤ K.wants out.new }
 {
     for item in outs {
         match print_out(alloc, item, out) {
@@ -30,10 +31,12 @@ fn print_out<K: Sink>(alloc: Global, item: &Out, out: &mut K) -> WriteAnswer
     ensures octets { WriteAdds (K.written out.old) (K.written out.new) result (line_of_out item.now) }
     ensures later { K.faults out.old ≤ K.faults out.new }
     ensures cause { WriteCause (K.faults out.old) (K.faults out.new) result }
+    ensures wants_later { K.wants out.old ≤ K.wants out.new }
 {
     match item {
         Out::Piece(lane, piece) => print_text(put_line(alloc, *lane, piece.as_slice()), out),
         Out::End(lane, reason, at) => print_text(end_line(alloc, *lane, *reason, *at), out),
+        Out::Note(note) => print_text(note_line(alloc, *note), out),
     }
 }
 
@@ -42,6 +45,7 @@ pub fn print_text<K: Sink>(line: Result<String, NoMemory>, out: &mut K) -> Write
     ensures octets { MatchResult line (λ text. WriteAdds (K.written out.old) (K.written out.new) result (string_bytes text)) (λ _. (result ≡ WriteAnswer.NoMemory) × Keeps (K.written out.old) (K.written out.new)) }
     ensures later { K.faults out.old ≤ K.faults out.new }
     ensures cause { WriteCause (K.faults out.old) (K.faults out.new) result }
+    ensures wants_later { K.wants out.old ≤ K.wants out.new }
 {
     match line {
         Ok(line) => out.write(line.as_bytes()),
@@ -72,6 +76,16 @@ fn end_text(alloc: Global, lane: u32, reason: &str, at: u64) -> Result<String, N
     ensures { IfOk result (λ line. string_bytes line ≡ Shown.end_line lane reason.now at) }
 {
     Ok(format!(in alloc; "end {lane} {reason} {at}\n")?)
+}
+
+fn note_line(alloc: Global, note: Note) -> Result<String, NoMemory>
+    ensures { IfOk result (λ line. string_bytes line ≡ Shown.note_line note) }
+{
+    match note {
+        Note::Shut(act) => Ok(format!(in alloc; "store shut {act}\n")?),
+        Note::Again(act, true) => Ok(format!(in alloc; "store open {act} kept\n")?),
+        Note::Again(act, false) => Ok(format!(in alloc; "store open {act} plain\n")?),
+    }
 }
 
 fn reason_word(reason: Reason) -> &'static str

@@ -1,7 +1,8 @@
-ghost use Rattle.std.specs.Prelude.{◌≡◌, ◌+◌, ◌<◌, ◌≤◌, ◌^◌, ℕ, List, Option, length, take, drop, vec_len};
+ghost use Rattle.std.specs.Prelude.{◌≡◌, ◌+◌, ◌<◌, ◌≤◌, ◌^◌, ◌⊎◌, ℕ, List, Option, length, take, drop, vec_len};
 ghost use Rattle.mj_base.specs.declared.event.Event.{Event};
-ghost use Rattle.mj_base.specs.Reading.{ReadTakes, ReadCause};
-ghost use Rattle.mj_prog.specs.ReadSoFar.{HasNoNewline, IsSoFar, IsStep, StepCause, StepFewer, StepIsTaken, Fills, FillCause, filled_of, filled_count};
+ghost use Rattle.mj_base.specs.Reading.{ReadTakes, ReadCause, ReadMisses};
+ghost use Rattle.mj_prog.specs.Reads.{ReadsNoFurther, StopsReading};
+ghost use Rattle.mj_prog.specs.ReadSoFar.{HasNoNewline, IsSoFar, IsStep, StepCause, StepFewer, StepIsTaken, Fills, FillCause, FillMisses, filled_of, filled_count};
 
 use super::next::Next;
 use super::progress::Progress;
@@ -30,6 +31,8 @@ pub fn read_more<S: Source>(progress: &mut Progress, src: &mut S) -> Option<Next
     ensures stands { (from : Option (List ℕ)) (taken : List Event) → IsSoFar from (S.left src.old) progress.old.lanes progress.old.pending.items progress.old.room progress.old.lines taken → IsStep from (S.left src.new) progress.new.lanes progress.new.pending.items progress.new.room progress.new.lines taken result }
     ensures lanes { progress.new.lanes ≡ progress.old.lanes }
     ensures later { S.faults src.old ≤ S.faults src.new }
+    ensures no_further { (from : Option (List ℕ)) (taken : List Event) → IsSoFar from (S.left src.old) progress.old.lanes progress.old.pending.items progress.old.room progress.old.lines taken → ReadsNoFurther progress.old.lanes from (S.last src.old) (S.last src.new) }
+    ensures misses { StopsReading progress.old.room progress.new.room (S.misses src.old) (S.misses src.new) }
     ensures cause { StepCause (S.faults src.old) (S.faults src.new) result }
     ensures taken { StepIsTaken progress.old.lanes result }
     ensures fewer { StepFewer progress.old progress.new result }
@@ -44,7 +47,10 @@ pub fn read_more<S: Source>(progress: &mut Progress, src: &mut S) -> Option<Next
             progress.room = 0;
             None
         }
-        Filled::Failed => Some(Next::Failed),
+        Filled::Failed => {
+            progress.room = 0;
+            Some(Next::Failed)
+        }
         Filled::NoMemory => Some(Next::NoMemory),
     }
 }
@@ -55,6 +61,8 @@ fn fill<S: Source>(pending: &mut Vec<u8>, most: usize, src: &mut S) -> Filled
     requires few { vec_len pending.old + most ≤ 2 ^ 41 }
     ensures fills { Fills (S.left src.old) (S.left src.new) most pending.old.items pending.new.items result }
     ensures later { S.faults src.old ≤ S.faults src.new }
+    ensures last { (S.last src.new ≡ S.left src.old) ⊎ (S.last src.new ≡ S.last src.old) }
+    ensures misses { FillMisses (S.misses src.old) (S.misses src.new) result }
     ensures cause { FillCause (S.faults src.old) (S.faults src.new) result }
 {
     let at = pending.len();
@@ -91,6 +99,8 @@ fn read_behind<S: Source>(buffer: &mut [u8], at: usize, src: &mut S) -> ReadAnsw
     ensures kept { take at buffer.new ≡ take at buffer.old }
     ensures octets { ReadTakes (S.left src.old) (S.left src.new) result (drop at buffer.new) }
     ensures later { S.faults src.old ≤ S.faults src.new }
+    ensures last { S.last src.new ≡ S.left src.old }
+    ensures misses { ReadMisses (S.misses src.old) (S.misses src.new) result }
     ensures cause { ReadCause (S.faults src.old) (S.faults src.new) result }
 {
     src.read(buffer.split_at_mut(at).1)

@@ -1,4 +1,5 @@
 ghost use Rattle.std.specs.Prelude.{◌≡◌, ◌+◌, ◌≤◌, ℕ, List, Option, false, length};
+ghost use Rattle.mj_prog.specs.Reads.{ReadsNoFurther};
 ghost use Rattle.mj_prog.specs.Running.{IsRunning, IsHalted, HaltCause};
 
 use super::progress::Progress;
@@ -30,6 +31,9 @@ pub fn run_script<S: Source, K: Sink>(
     ensures runs { IsRunning (S.left src.old) (S.left src.old) progress.old.lanes progress.old.pending.items progress.old.room progress.old.lines broker.old (K.written out.old) (K.written out.old) 0 → IsHalted (S.left src.old) (S.left src.new) progress.old.lanes (K.written out.old) (K.written out.new) result.events result.halt }
     ensures reads_later { S.faults src.old ≤ S.faults src.new }
     ensures writes_later { K.faults out.old ≤ K.faults out.new }
+    ensures wants_later { K.wants out.old ≤ K.wants out.new }
+    ensures no_further { IsRunning (S.left src.old) (S.left src.old) progress.old.lanes progress.old.pending.items progress.old.room progress.old.lines broker.old (K.written out.old) (K.written out.old) 0 → ReadsNoFurther progress.old.lanes (S.left src.old) (S.last src.old) (S.last src.new) }
+    ensures misses { S.misses src.new ≤ S.misses src.old + 1 }
     ensures cause { HaltCause (S.faults src.old) (S.faults src.new) (K.faults out.old) (K.faults out.new) result.halt }
 {
     let mut events: u64 = 0;

@@ -4,6 +4,9 @@ ghost use Rattle.mj_base.specs.StandardLimits.{standard_limits};
 ghost use Rattle.mj_machine.specs.MachineState.{Machine};
 ghost use Rattle.mj_base.specs.EventBounds.{IsTakenBy};
 ghost use Rattle.mj_broker.specs.BrokerState.{IsAt};
+ghost use Rattle.mj_base.specs.declared.event.Event.{Event};
+ghost use Rattle.mj_prog.specs.ReadSoFar.{IsSoFar};
+ghost use Rattle.mj_prog.specs.Reads.{ReadsNoFurther, StopsReading};
 ghost use Rattle.mj_prog.specs.Running.{Takes, IsRunning, IsTurn, TurnCause, TurnFresh, TurnNext, DoneFresh, DoneNext, halt_after, turn_cost};
 
 use super::next::{Next, read_next};
@@ -42,6 +45,9 @@ pub fn turn<S: Source, K: Sink>(
     ensures runs { (from written : Option (List ℕ)) (events : ℕ) → IsRunning from (S.left src.old) progress.old.lanes progress.old.pending.items progress.old.room progress.old.lines broker.old written (K.written out.old) events → IsTurn from (S.left src.new) progress.new.lanes progress.new.pending.items progress.new.room progress.new.lines broker.new written (K.written out.new) events result }
     ensures reads_later { S.faults src.old ≤ S.faults src.new }
     ensures writes_later { K.faults out.old ≤ K.faults out.new }
+    ensures wants_later { K.wants out.old ≤ K.wants out.new }
+    ensures no_further { (from : Option (List ℕ)) (taken : List Event) → IsSoFar from (S.left src.old) progress.old.lanes progress.old.pending.items progress.old.room progress.old.lines taken → ReadsNoFurther progress.old.lanes from (S.last src.old) (S.last src.new) }
+    ensures misses { StopsReading progress.old.room progress.new.room (S.misses src.old) (S.misses src.new) }
     ensures cause { TurnCause (S.faults src.old) (S.faults src.new) (K.faults out.old) (K.faults out.new) result }
     ensures lanes { progress.new.lanes ≡ progress.old.lanes }
     ensures limits { broker.new.limits ≡ broker.old.limits }
@@ -76,6 +82,7 @@ fn take_event<K: Sink>(alloc: Global, broker: &mut Broker, event: Event, out: &m
     ensures takes { (state : Machine) → IsAt standard_limits broker.old state → Takes broker.new (K.written out.old) (K.written out.new) event result state }
     ensures later { K.faults out.old ≤ K.faults out.new }
     ensures cause { WriteCause (K.faults out.old) (K.faults out.new) result }
+    ensures wants_later { K.wants out.old ≤ K.wants out.new }
     ensures limits { broker.new.limits ≡ broker.old.limits }
     ensures fresh { DoneFresh broker.new.spent result }
     ensures next { DoneNext broker.old.state.next broker.new.state.next result }

@@ -206,6 +206,9 @@ fn a_failing_read_or_write_ends_the_run(rt: HostRuntime) -> Result<(), Fail> {
     let (text, status) = printed(rt.alloc(), &["-", "replay"], b"stop\n", &[], &[0])?;
     assert_eq!(rt; text.as_slice(), b"".as_slice());
     assert_eq!(rt; status, 7);
+    let (text, status) = printed(rt.alloc(), &["-", "replay"], b"stop\n", &[0], &[0])?;
+    assert_eq!(rt; text.as_slice(), b"".as_slice());
+    assert_eq!(rt; status, 6);
     let (text, status) = printed(rt.alloc(), &["-", "replay"], b"x\n", &[], &[0])?;
     assert_eq!(rt; text.as_slice(), b"".as_slice());
     assert_eq!(rt; status, 2);

@@ -1,8 +1,19 @@
 use Rattle.std.proofs.Common.{List, ℕ, subst, ◌∙◌}
-use Rattle.mj_prog.specs.ReplayTable.{AppendsLine}
+use Rattle.mj_prog.specs.ReplayTable.{AppendsLine, printed}
+use Rattle.mj_prog.specs.SinkCounts.{counted}
+use Rattle.mj_prog.proofs.Rows.{row-unmade}
 use Rattle.mj_prog.proofs.finish.refuse.Goals as goal
 
-pub returns-in-Ok-clause-line : goal.returns-in-Ok-clause-line
-returns-in-Ok-clause-line g c = λ written bytes before first added.
-    subst (λ (line : List ℕ). AppendsLine written (g.K.Sink.written c.complain.new.out) before (g.K.Sink.faults c.complain.new.out) bytes line)
-    (c.as_bytes.ensures.value ∙ c.in-Ok.ensures) (c.complain.ensures.line written bytes before first added)
+pub returns-in-Ok : goal.returns-in-Ok
+returns-in-Ok g c = λ lanes reads_before reads_now writes_before from left written events first halted. (
+  halted.0,
+  c.args.number,
+  halted.1,
+  halted.2,
+  subst (λ (line : List ℕ). AppendsLine written (g.K.Sink.written c.complain.new.out) writes_before (counted (g.K.Sink.faults c.complain.new.out) (g.K.Sink.wants c.complain.new.out)) (printed lanes halted.0) line)
+      (c.as_bytes.ensures.value ∙ c.in-Ok.ensures) (c.complain.ensures written (printed lanes halted.0) writes_before first halted.3),
+)
+
+pub returns-in-Err : goal.returns-in-Err
+returns-in-Err g c = λ lanes reads_before reads_now writes_before from left written events first halted.
+    row-unmade lanes from left written (g.K.Sink.written c.args.out.now) events c.args.number halted

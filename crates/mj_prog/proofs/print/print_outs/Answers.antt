@@ -24,5 +24,6 @@ returns-in-Failed-clause-octets g c =
 pub loop-item-preserved : goal.loop-item-preserved
 loop-item-preserved g c = record {
   prints = shown-done _ (g.K.Sink.written c.loop-item.out) _ c.deref-item-items.result.now c.loop-item.item-index c.item-item.result c.loop-item-test.true c.item-item.is c.loop-item.invariant.prints c.in-Done.ensures.octets;
+  wants = omega arith;
   later = omega arith;
 }

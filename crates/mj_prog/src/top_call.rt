@@ -1,15 +1,16 @@
-ghost use Rattle.std.specs.Prelude.{ℕ, List, ◌≡◌, ◌↔◌, ◌^◌, ◌≤◌, [], Some, None, IfSome, map, take, string_bytes};
-ghost use Rattle.std.specs.Io.KnownBytes.{Keeps};
+ghost use Rattle.std.specs.Prelude.{ℕ, List, ◌≡◌, ◌↔◌, ◌+◌, ◌^◌, ◌≤◌, [], Some, None, IfSome, map, take, string_bytes};
 ghost use Rattle.mj_base.specs.Rising.{Rose};
 ghost use Rattle.mj_prog.specs.Words.{options_in};
+ghost use Rattle.mj_prog.specs.SinkCounts.{counted};
+ghost use Rattle.mj_prog.specs.Reads.{ReadsNoFurther};
 ghost use Rattle.mj_prog.specs.Script.{script};
 ghost use Rattle.mj_prog.specs.Shown.{fault_words};
 ghost use Rattle.mj_base.specs.StandardLimits.{standard_limits};
 ghost use Rattle.mj_laws.specs.NobodyWaits.{NobodyWaits};
 ghost use Rattle.mj_laws.specs.Replies.{RepliesAreOwned};
-ghost use Rattle.mj_laws.specs.Requests.{OneRequestAtATime};
+ghost use Rattle.mj_laws.specs.Requests.{LeasesEndInTime, OneRequestAtATime, RequestsArePaired};
 ghost use Rattle.mj_laws.specs.Soundness.{StaysSound};
-ghost use Rattle.mj_prog.specs.ReplayTable.{IsInput, IsDone, IsRefused, IsCutOff, IsUnread, AppendsLine, AnswersFor};
+ghost use Rattle.mj_prog.specs.ReplayTable.{IsInput, IsDone, IsRefused, IsCutOff, IsUnwritten, IsUnread, AppendsLine, AnswersFor};
 ghost use Rattle.mj_prog.specs.Statuses.{IsStatus};
 ghost use Rattle.mj_prog.specs.StatusRows.{IsRow};
 ghost use Rattle.mj_prog.specs.declared.status.Status;
@@ -31,17 +32,23 @@ const SCRIPT_BYTES: u64 = 1 << 40;
 pub fn tool<S: Source, K: Sink>(alloc: Global, words: &[String], src: &mut S, out: &mut K) -> u8
     ensures statuses { IsStatus result }
     ensures words { (result ≡ 1) ↔ (options_in (map string_bytes words.now) ≡ None) }
-    ensures refused_words { result ≡ 1 → Keeps (S.left src.old) (S.left src.new) × AppendsLine (K.written out.old) (K.written out.new) (K.faults out.old) (K.faults out.new) [] fault_words }
+    ensures refused_words { result ≡ 1 → (src.new ≡ src.old) × AppendsLine (K.written out.old) (K.written out.new) (counted (K.faults out.old) (K.wants out.old)) (counted (K.faults out.new) (K.wants out.new)) [] fault_words }
     ensures done { result ≡ 0 → IfSome (options_in (map string_bytes words.now)) (λ options. IsDone options.lanes (S.left src.old) (K.written out.old) (K.written out.new)) }
-    ensures unlawful { result ≡ 2 → IfSome (options_in (map string_bytes words.now)) (λ options. IsRefused options.lanes (S.left src.old) (K.written out.old) (K.written out.new) (K.faults out.old) (K.faults out.new)) }
+    ensures unlawful { result ≡ 2 → IfSome (options_in (map string_bytes words.now)) (λ options. IsRefused options.lanes (S.left src.old) (K.written out.old) (K.written out.new) (counted (K.faults out.old) (K.wants out.old)) (counted (K.faults out.new) (K.wants out.new))) }
     ensures memory { result ≡ 4 → IfSome (options_in (map string_bytes words.now)) (λ options. IsCutOff options.lanes (S.left src.old) (K.written out.old) (K.written out.new)) }
-    ensures read { result ≡ 6 → IfSome (options_in (map string_bytes words.now)) (λ options. Rose (S.faults src.old) (S.faults src.new) × IsUnread options.lanes (S.left src.old) (S.left src.new) (K.written out.old) (K.written out.new) (K.faults out.old) (K.faults out.new)) }
-    ensures write { result ≡ 7 → IfSome (options_in (map string_bytes words.now)) (λ options. Rose (K.faults out.old) (K.faults out.new) × IsCutOff options.lanes (S.left src.old) (K.written out.old) (K.written out.new)) }
+    ensures read { result ≡ 6 → IfSome (options_in (map string_bytes words.now)) (λ options. Rose (S.faults src.old) (S.faults src.new) × IsUnread options.lanes (S.left src.old) (S.left src.new) (K.written out.old) (K.written out.new) (counted (K.faults out.old) (K.wants out.old)) (counted (K.faults out.new) (K.wants out.new))) }
+    ensures write { result ≡ 7 → IfSome (options_in (map string_bytes words.now)) (λ options. Rose (K.faults out.old) (K.faults out.new) × IsUnwritten options.lanes (S.left src.old) (K.written out.old) (K.written out.new)) }
     ensures complete { IfSome (options_in (map string_bytes words.now)) (λ options. IfSome (S.left src.old) (λ all. ¬ Rose (S.faults src.old) (S.faults src.new) → ¬ Rose (K.faults out.old) (K.faults out.new) → AnswersFor (script options.lanes (take (2 ^ 40) all)).ending result)) }
+
+    // Nothing behind the piece in which the script stops is read, and nothing behind a read that gave nothing.
+    ensures no_further { IfSome (options_in (map string_bytes words.now)) (λ options. ReadsNoFurther options.lanes (S.left src.old) (S.last src.old) (S.last src.new)) }
+    ensures misses { S.misses src.new ≤ S.misses src.old + 1 }
 
     // What users rely on, in each step of the machine's run over the script's events.
     ensures replies { IfSome (options_in (map string_bytes words.now)) (λ options. (text : List ℕ) → IsInput (S.left src.old) text → RepliesAreOwned standard_limits (script options.lanes text).events) }
     ensures requests { IfSome (options_in (map string_bytes words.now)) (λ options. (text : List ℕ) → IsInput (S.left src.old) text → OneRequestAtATime standard_limits (script options.lanes text).events) }
+    ensures paired { IfSome (options_in (map string_bytes words.now)) (λ options. (text : List ℕ) → IsInput (S.left src.old) text → RequestsArePaired standard_limits (script options.lanes text).events) }
+    ensures leases { IfSome (options_in (map string_bytes words.now)) (λ options. (text : List ℕ) → IsInput (S.left src.old) text → LeasesEndInTime standard_limits (script options.lanes text).events) }
     ensures waiting { IfSome (options_in (map string_bytes words.now)) (λ options. (text : List ℕ) → IsInput (S.left src.old) text → NobodyWaits standard_limits (script options.lanes text).events) }
     ensures sound { IfSome (options_in (map string_bytes words.now)) (λ options. (text : List ℕ) → IsInput (S.left src.old) text → StaysSound standard_limits (script options.lanes text).events) }
 {
@@ -50,8 +57,10 @@ pub fn tool<S: Source, K: Sink>(alloc: Global, words: &[String], src: &mut S, ou
 
 fn run_tool<S: Source, K: Sink>(alloc: Global, words: &[String], src: &mut S, out: &mut K) -> Status
     ensures words { (result ≡ Status.Words) ↔ (options_in (map string_bytes words.now) ≡ None) }
-    ensures refused_words { result ≡ Status.Words → Keeps (S.left src.old) (S.left src.new) × AppendsLine (K.written out.old) (K.written out.new) (K.faults out.old) (K.faults out.new) [] fault_words }
-    ensures rows { IfSome (options_in (map string_bytes words.now)) (λ options. IsRow options.lanes (S.left src.old) (S.left src.new) (S.faults src.old) (S.faults src.new) (K.written out.old) (K.written out.new) (K.faults out.old) (K.faults out.new) result) }
+    ensures refused_words { result ≡ Status.Words → (src.new ≡ src.old) × AppendsLine (K.written out.old) (K.written out.new) (counted (K.faults out.old) (K.wants out.old)) (counted (K.faults out.new) (K.wants out.new)) [] fault_words }
+    ensures no_further { IfSome (options_in (map string_bytes words.now)) (λ options. ReadsNoFurther options.lanes (S.left src.old) (S.last src.old) (S.last src.new)) }
+    ensures misses { S.misses src.new ≤ S.misses src.old + 1 }
+    ensures rows { IfSome (options_in (map string_bytes words.now)) (λ options. IsRow options.lanes (S.left src.old) (S.left src.new) (S.faults src.old) (S.faults src.new) (K.written out.old) (K.written out.new) (counted (K.faults out.old) (K.wants out.old)) (counted (K.faults out.new) (K.wants out.new)) result) }
 {
     match read_words(words) {
         Some(options) => replay(alloc, options.lanes, src, out),
@@ -65,7 +74,9 @@ fn run_tool<S: Source, K: Sink>(alloc: Global, words: &[String], src: &mut S, ou
 /// Runs the script of the source with so many lanes.
 fn replay<S: Source, K: Sink>(alloc: Global, lanes: u32, src: &mut S, out: &mut K) -> Status
     requires { lanes ≤ 64 }
-    ensures row { IsRow lanes (S.left src.old) (S.left src.new) (S.faults src.old) (S.faults src.new) (K.written out.old) (K.written out.new) (K.faults out.old) (K.faults out.new) result }
+    ensures no_further { ReadsNoFurther lanes (S.left src.old) (S.last src.old) (S.last src.new) }
+    ensures misses { S.misses src.new ≤ S.misses src.old + 1 }
+    ensures row { IsRow lanes (S.left src.old) (S.left src.new) (S.faults src.old) (S.faults src.new) (K.written out.old) (K.written out.new) (counted (K.faults out.old) (K.wants out.old)) (counted (K.faults out.new) (K.wants out.new)) result }
 {
     let Ok(mut broker) = Broker::new(alloc, &Limits::standard()) else {
         return Status::NoMemory;

@@ -1,19 +1,22 @@
 use Rattle.std.proofs.Common.{map, string_bytes, ap, ◌∙◌}
 use Rattle.mj_prog.specs.declared.status.Status.TheVariants as statuses
+use Rattle.mj_prog.specs.SinkCounts.{counted}
 use Rattle.mj_prog.specs.Words.{options_in}
 use Rattle.mj_prog.specs.Statuses.{code_of}
 use Rattle.mj_base.specs.StandardLimits.{standard_limits}
 use Rattle.mj_laws.specs.NobodyWaits.{NobodyWaits}
 use Rattle.mj_laws.specs.Replies.{RepliesAreOwned}
-use Rattle.mj_laws.specs.Requests.{OneRequestAtATime}
+use Rattle.mj_laws.specs.Requests.{LeasesEndInTime, OneRequestAtATime, RequestsArePaired}
 use Rattle.mj_laws.specs.Soundness.{StaysSound}
 use Rattle.mj_laws.proofs.ReplyLemmas.{replies_are_owned}
 use Rattle.mj_laws.proofs.RequestLemmas.{one_request_at_a_time}
+use Rattle.mj_laws.proofs.PairedLemmas.{requests_are_paired}
+use Rattle.mj_laws.proofs.LeaseLemmas.{leases_end_in_time}
 use Rattle.mj_laws.proofs.SettledLemmas.{nobody_waits}
 use Rattle.mj_laws.proofs.SoundLemmas.{stays-sound}
 use Rattle.mj_prog.proofs.RunLaws.{over-each}
 use Rattle.mj_prog.proofs.StatusLaws.{status-is, row-of, answers}
-use Rattle.mj_prog.proofs.tool.tool.Goals as goal
+use Rattle.mj_prog.proofs.top_call.tool.Goals as goal
 
 pub returns-clause-words : goal.returns-clause-words
 returns-clause-words g c = (
@@ -27,37 +30,37 @@ returns-clause-refused_words g c = λ is. c.run_tool.ensures.refused_words (stat
 pub returns-clause-done : goal.returns-clause-done
 returns-clause-done g c = λ is.
     row-of (options_in (map string_bytes c.args.words.now)) (g.S.Source.left c.args.src.now) (g.S.Source.left c.run_tool.new.src) (g.K.Sink.written c.args.out.now) (g.K.Sink.written c.run_tool.new.out)
-    (g.S.Source.faults c.args.src.now) (g.S.Source.faults c.run_tool.new.src) (g.K.Sink.faults c.args.out.now) (g.K.Sink.faults c.run_tool.new.out)
+    (g.S.Source.faults c.args.src.now) (g.S.Source.faults c.run_tool.new.src) (counted (g.K.Sink.faults c.args.out.now) (g.K.Sink.wants c.args.out.now)) (counted (g.K.Sink.faults c.run_tool.new.out) (g.K.Sink.wants c.run_tool.new.out))
     c.code.result c.run_tool.result statuses.Done c.run_tool.ensures.rows c.code.ensures is
 
 pub returns-clause-unlawful : goal.returns-clause-unlawful
 returns-clause-unlawful g c = λ is.
     row-of (options_in (map string_bytes c.args.words.now)) (g.S.Source.left c.args.src.now) (g.S.Source.left c.run_tool.new.src) (g.K.Sink.written c.args.out.now) (g.K.Sink.written c.run_tool.new.out)
-    (g.S.Source.faults c.args.src.now) (g.S.Source.faults c.run_tool.new.src) (g.K.Sink.faults c.args.out.now) (g.K.Sink.faults c.run_tool.new.out)
+    (g.S.Source.faults c.args.src.now) (g.S.Source.faults c.run_tool.new.src) (counted (g.K.Sink.faults c.args.out.now) (g.K.Sink.wants c.args.out.now)) (counted (g.K.Sink.faults c.run_tool.new.out) (g.K.Sink.wants c.run_tool.new.out))
     c.code.result c.run_tool.result statuses.Line c.run_tool.ensures.rows c.code.ensures is
 
 pub returns-clause-memory : goal.returns-clause-memory
 returns-clause-memory g c = λ is.
     row-of (options_in (map string_bytes c.args.words.now)) (g.S.Source.left c.args.src.now) (g.S.Source.left c.run_tool.new.src) (g.K.Sink.written c.args.out.now) (g.K.Sink.written c.run_tool.new.out)
-    (g.S.Source.faults c.args.src.now) (g.S.Source.faults c.run_tool.new.src) (g.K.Sink.faults c.args.out.now) (g.K.Sink.faults c.run_tool.new.out)
+    (g.S.Source.faults c.args.src.now) (g.S.Source.faults c.run_tool.new.src) (counted (g.K.Sink.faults c.args.out.now) (g.K.Sink.wants c.args.out.now)) (counted (g.K.Sink.faults c.run_tool.new.out) (g.K.Sink.wants c.run_tool.new.out))
     c.code.result c.run_tool.result statuses.NoMemory c.run_tool.ensures.rows c.code.ensures is
 
 pub returns-clause-read : goal.returns-clause-read
 returns-clause-read g c = λ is.
     row-of (options_in (map string_bytes c.args.words.now)) (g.S.Source.left c.args.src.now) (g.S.Source.left c.run_tool.new.src) (g.K.Sink.written c.args.out.now) (g.K.Sink.written c.run_tool.new.out)
-    (g.S.Source.faults c.args.src.now) (g.S.Source.faults c.run_tool.new.src) (g.K.Sink.faults c.args.out.now) (g.K.Sink.faults c.run_tool.new.out)
+    (g.S.Source.faults c.args.src.now) (g.S.Source.faults c.run_tool.new.src) (counted (g.K.Sink.faults c.args.out.now) (g.K.Sink.wants c.args.out.now)) (counted (g.K.Sink.faults c.run_tool.new.out) (g.K.Sink.wants c.run_tool.new.out))
     c.code.result c.run_tool.result statuses.Read c.run_tool.ensures.rows c.code.ensures is
 
 pub returns-clause-write : goal.returns-clause-write
 returns-clause-write g c = λ is.
     row-of (options_in (map string_bytes c.args.words.now)) (g.S.Source.left c.args.src.now) (g.S.Source.left c.run_tool.new.src) (g.K.Sink.written c.args.out.now) (g.K.Sink.written c.run_tool.new.out)
-    (g.S.Source.faults c.args.src.now) (g.S.Source.faults c.run_tool.new.src) (g.K.Sink.faults c.args.out.now) (g.K.Sink.faults c.run_tool.new.out)
+    (g.S.Source.faults c.args.src.now) (g.S.Source.faults c.run_tool.new.src) (counted (g.K.Sink.faults c.args.out.now) (g.K.Sink.wants c.args.out.now)) (counted (g.K.Sink.faults c.run_tool.new.out) (g.K.Sink.wants c.run_tool.new.out))
     c.code.result c.run_tool.result statuses.Write c.run_tool.ensures.rows c.code.ensures is
 
 pub returns-clause-complete : goal.returns-clause-complete
 returns-clause-complete g c =
     answers (options_in (map string_bytes c.args.words.now)) (g.S.Source.left c.args.src.now) (g.S.Source.left c.run_tool.new.src) (g.K.Sink.written c.args.out.now) (g.K.Sink.written c.run_tool.new.out)
-    (g.S.Source.faults c.args.src.now) (g.S.Source.faults c.run_tool.new.src) (g.K.Sink.faults c.args.out.now) (g.K.Sink.faults c.run_tool.new.out)
+    (g.S.Source.faults c.args.src.now) (g.S.Source.faults c.run_tool.new.src) (counted (g.K.Sink.faults c.args.out.now) (g.K.Sink.wants c.args.out.now)) (counted (g.K.Sink.faults c.run_tool.new.out) (g.K.Sink.wants c.run_tool.new.out))
     c.code.result c.run_tool.result c.run_tool.ensures.rows c.code.ensures
 
 pub returns-clause-statuses : goal.returns-clause-statuses
@@ -68,6 +71,12 @@ returns-clause-replies g c = over-each (RepliesAreOwned standard_limits) (replie
 
 pub returns-clause-requests : goal.returns-clause-requests
 returns-clause-requests g c = over-each (OneRequestAtATime standard_limits) (one_request_at_a_time standard_limits) (g.S.Source.left c.args.src.now) (options_in (map string_bytes c.args.words.now))
+
+pub returns-clause-paired : goal.returns-clause-paired
+returns-clause-paired g c = over-each (RequestsArePaired standard_limits) (requests_are_paired standard_limits) (g.S.Source.left c.args.src.now) (options_in (map string_bytes c.args.words.now))
+
+pub returns-clause-leases : goal.returns-clause-leases
+returns-clause-leases g c = over-each (LeasesEndInTime standard_limits) (leases_end_in_time standard_limits) (g.S.Source.left c.args.src.now) (options_in (map string_bytes c.args.words.now))
 
 pub returns-clause-waiting : goal.returns-clause-waiting
 returns-clause-waiting g c = over-each (NobodyWaits standard_limits) (nobody_waits standard_limits) (g.S.Source.left c.args.src.now) (options_in (map string_bytes c.args.words.now))
