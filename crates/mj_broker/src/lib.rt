@@ -17,6 +17,3 @@ mod wires;
 
 pub use broker::Broker;
 pub use fault::EventFault;
-
-#[cfg(test)]
-mod tests;

@@ -13,6 +13,3 @@ pub use command::{ClientCmd, ClientReply};
 pub use laws::{replies_are_one_to_one, requests_are_one_to_one};
 pub use reply::{read_reply, write_reply};
 pub use request::{read_client, write_client};
-
-#[cfg(test)]
-mod tests;

@@ -4,6 +4,3 @@
 mod greeting;
 
 pub use greeting::{Greeting, GreetingFault, broker_greeting, greeting_fault, read_greeting};
-
-#[cfg(test)]
-mod tests;

@@ -9,6 +9,3 @@ mod socket_type;
 pub use laws::{one_list, written_is_read};
 pub use ready::{read_ready, write_ready};
 pub use socket_type::SocketType;
-
-#[cfg(test)]
-mod tests;

@@ -27,6 +27,3 @@ pub use tick_pass::TickPass;
 pub use ticking::{Clock, tick_loop};
 pub use writer_pass::WriterPass;
 pub use writing::write_loop;
-
-#[cfg(test)]
-mod tests;

@@ -8,11 +8,10 @@ use super::entry::{BySender, Entry};
 use super::{HubPass, LanePass, TickPass, WriterPass};
 use mj_base::NoMemory;
 use std::alloc::Global;
-use std::sync::Wait;
 
 /// The passes of 1 to 64 lanes: the hub's, each lane's reader's and writer's, and the ticker's. The inbox holds
 /// 1,024 entries, and each lane's outlet 4,097 pieces and end marks.
-pub fn lanes_new<R: Wait + Copy + Drop>(
+pub fn lanes_new<R: Copy + Drop>(
     rt: R,
     alloc: Global,
     lanes: u32,

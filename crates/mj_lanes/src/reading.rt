@@ -1,10 +1,9 @@
-ghost use Rattle.std.specs.Prelude.{◌≡◌, ◌<◌, ◌≤◌, ◌⊎◌, [], false, length, IfOk, OnOk};
+ghost use Rattle.std.specs.Prelude.{◌≡◌, ◌<◌, ◌≤◌, ◌⊎◌, false, length, IfOk, OnOk, OnErr, if◌then◌else◌};
 ghost use Rattle.std.specs.Io.KnownBytes.{IsAtEnd};
-ghost use Rattle.mj_base.specs.Rising.{Rose};
+ghost use Rattle.mj_base.specs.Rising.{Rose, risen};
 ghost use Rattle.mj_lanes.specs.ReadSteps.{Reads, ReadsAll};
 
 use super::LanePass;
-use super::ends::rest;
 use mj_base::{Event, NoMemory, Octets, ReadAnswer, Source};
 use std::alloc::Global;
 use std::sync::Wait;
@@ -13,7 +12,7 @@ use std::sync::Wait;
 const PIECE_BYTES: usize = 65_536;
 
 /// Sends what the source gives, as pieces in order, until the source's end, a read that fails or want of memory,
-/// and then `Close`. It takes the room for a piece before it reads, so that no byte read is lost.
+/// and then `Close`. The room for a piece is there before it reads, so that no byte read is lost.
 pub fn read_loop<R: Wait + Copy, S: Source>(
     alloc: Global,
     pass: &mut LanePass<R>,
@@ -23,6 +22,10 @@ pub fn read_loop<R: Wait + Copy, S: Source>(
     ensures sent { ReadsAll pass.old.lane pass.old.sent pass.new.sent (S.left source.old) (S.left source.new) }
     ensures all { OnOk result (IsAtEnd (S.left source.new) ⊎ Rose (S.faults source.old) (S.faults source.new)) }
     ensures later { S.faults source.old ≤ S.faults source.new }
+
+    // Behind the read that gave nothing there is none.
+    ensures misses { OnOk result (S.misses source.new ≡ risen (S.misses source.old)) }
+    ensures unmissed { OnErr result (S.misses source.new ≡ S.misses source.old) }
 {
     let result = read_with_room(alloc, pass, source);
     pass.send(Event::Close(pass.lane()));
@@ -38,9 +41,11 @@ fn read_with_room<R: Wait + Copy, S: Source>(
     ensures sent { Reads pass.old.lane pass.old.sent pass.new.sent (S.left source.old) (S.left source.new) }
     ensures all { OnOk result (IsAtEnd (S.left source.new) ⊎ Rose (S.faults source.old) (S.faults source.new)) }
     ensures later { S.faults source.old ≤ S.faults source.new }
+    ensures misses { OnOk result (S.misses source.new ≡ risen (S.misses source.old)) }
+    ensures unmissed { OnErr result (S.misses source.new ≡ S.misses source.old) }
 {
     let mut into = zeros(alloc, PIECE_BYTES)?;
-    read_pieces(alloc, pass, source, into.as_mut_slice())
+    read_pieces(alloc, pass, source, &mut into)
 }
 
 fn zeros(alloc: Global, count: usize) -> Result<Vec<u8>, NoMemory>
@@ -54,13 +59,15 @@ fn read_pieces<R: Wait + Copy, S: Source>(
     alloc: Global,
     pass: &mut LanePass<R>,
     source: &mut S,
-    into: &mut [u8],
+    into: &mut Vec<u8>,
 ) -> Result<(), NoMemory>
-    requires { (0 < length into.old) × (length into.old ≤ 65536) }
+    requires { (0 < length into.old.items) × (length into.old.items ≤ 65536) }
     ensures pass { (pass.new.inbox ≡ pass.old.inbox) × (pass.new.lane ≡ pass.old.lane) }
     ensures sent { Reads pass.old.lane pass.old.sent pass.new.sent (S.left source.old) (S.left source.new) }
     ensures all { OnOk result (IsAtEnd (S.left source.new) ⊎ Rose (S.faults source.old) (S.faults source.new)) }
     ensures later { S.faults source.old ≤ S.faults source.new }
+    ensures misses { OnOk result (S.misses source.new ≡ risen (S.misses source.old)) }
+    ensures unmissed { OnErr result (S.misses source.new ≡ S.misses source.old) }
 {
     let rt = pass.handle();
     for _ in rt.forever() {
@@ -71,48 +78,37 @@ fn read_pieces<R: Wait + Copy, S: Source>(
     unreachable!()
 }
 
-/// Reads and sends one piece; false where there is none.
+/// Reads and sends one piece; false where there is none. Without memory for a copy of the bytes the room itself is
+/// sent with them.
 fn read_piece<R: Wait + Copy, S: Source>(
     alloc: Global,
     pass: &mut LanePass<R>,
     source: &mut S,
-    into: &mut [u8],
+    into: &mut Vec<u8>,
 ) -> Result<bool, NoMemory>
-    requires { (0 < length into.old) × (length into.old ≤ 65536) }
+    requires { (0 < length into.old.items) × (length into.old.items ≤ 65536) }
+    ensures room { OnOk result (length into.new.items ≡ length into.old.items) }
     ensures pass { (pass.new.inbox ≡ pass.old.inbox) × (pass.new.lane ≡ pass.old.lane) }
     ensures sent { Reads pass.old.lane pass.old.sent pass.new.sent (S.left source.old) (S.left source.new) }
     ensures all { IfOk result (λ more. more ≡ false → IsAtEnd (S.left source.new) ⊎ Rose (S.faults source.old) (S.faults source.new)) }
     ensures later { S.faults source.old ≤ S.faults source.new }
+    ensures misses { IfOk result (λ more. S.misses source.new ≡ (if more then S.misses source.old else risen (S.misses source.old))) }
+    ensures unmissed { OnErr result (S.misses source.new ≡ S.misses source.old) }
 {
-    let piece = room_of(alloc, into)?;
-    match source.read(into) {
-        ReadAnswer::Got(count) => {
-            let piece = filled(&pass.handle(), piece, &into[..count]);
-            pass.send(Event::Bytes(pass.lane(), piece));
-            Ok(true)
-        }
+    match source.read(into.as_mut_slice()) {
+        ReadAnswer::Got(count) => match Octets::copy_of(alloc, &into[..count]) {
+            Ok(piece) => {
+                pass.send(Event::Bytes(pass.lane(), piece));
+                Ok(true)
+            }
+            Err(error) => {
+                let mut room = std::mem::replace(into, Vec::new(alloc));
+                room.truncate(count);
+                pass.send(Event::Bytes(pass.lane(), Octets::from_vec(room)));
+                Err(error)
+            }
+        },
         ReadAnswer::End => Ok(false),
         ReadAnswer::Failed => Ok(false),
-    }
-}
-
-/// No bytes, with room for as many as these.
-fn room_of(alloc: Global, bytes: &[u8]) -> Result<Octets, NoMemory>
-    ensures { IfOk result (λ piece. piece ≡ []) }
-{
-    let mut piece = Octets::new(alloc);
-    piece.push_all(bytes)?;
-    piece.clear();
-    Ok(piece)
-}
-
-/// The piece with these bytes, for which it has room.
-fn filled<R: Wait>(rt: &R, mut piece: Octets, bytes: &[u8]) -> Octets
-    requires { piece ≡ [] }
-    ensures { result ≡ bytes.now }
-{
-    match piece.push_all(bytes) {
-        Ok(()) => piece,
-        Err(NoMemory) => rest(rt),
     }
 }

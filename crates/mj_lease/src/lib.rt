@@ -5,6 +5,3 @@ mod entries;
 mod leases;
 
 pub use leases::Leases;
-
-#[cfg(test)]
-mod tests;

@@ -1,6 +1,8 @@
-//! Tests of the top call, which stand apart so that its crate is proved once.
+//! Tests of the broker and of the top call, which stand apart so that their crates are proved once.
 #![tactic(auto)]
 
+#[cfg(test)]
+mod broker;
 #[cfg(test)]
 mod routed_runs;
 #[cfg(test)]

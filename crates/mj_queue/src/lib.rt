@@ -12,6 +12,3 @@ pub use hall::Hall;
 pub use laws::a_pair_is_the_first_on_both_sides;
 pub use request::{AskFault, Origin, Request};
 pub use worker::Waiter;
-
-#[cfg(test)]
-mod tests;

@@ -12,6 +12,3 @@ mod wire;
 pub use item::WireItem;
 pub use laws::{items_stay, longest_cut_is_read, no_cut_is_read};
 pub use wire::Wire;
-
-#[cfg(test)]
-mod tests;

@@ -13,6 +13,3 @@ pub use command::{Order, OrderAct, WorkerAct, WorkerCmd};
 pub use laws::{orders_are_one_to_one, worker_commands_are_one_to_one};
 pub use order_message::{read_order, write_order};
 pub use worker_message::{read_worker, write_worker};
-
-#[cfg(test)]
-mod tests;

@@ -1,7 +1,7 @@
-use Rattle.std.proofs.Common.{inl, inr, ⊎_elim, ◌∙◌}
+use Rattle.std.proofs.Common.{Bool, cond, ap, inl, inr, ⊎_elim, ◌∙◌}
 use Rattle.std.proofs.Math.Nat.{le_trans}
 use Rattle.std.specs.Io.KnownBytes.{IsAtEnd}
-use Rattle.mj_base.specs.Rising.{Rose}
+use Rattle.mj_base.specs.Rising.{Rose, risen}
 use Rattle.mj_lanes.proofs.Loops.{reads_turn, rose_since}
 use Rattle.mj_lanes.proofs.reading.read_pieces.Goals as goal
 
@@ -20,5 +20,13 @@ returns-then-not-branch-clause-all g c =
 pub loop-preserved : goal.loop-preserved
 loop-preserved g c =
     let i = c.loop.invariant in
-    let r = c.read_piece.ensures in
-    (tt, tt, r.pass.0 ∙ i.2, r.pass.1 ∙ i.3, reads_turn _ _ _ _ _ _ _ _ i.3 i.4 r.sent, le_trans i.5 r.later)
+    let r = c.read_piece.ensures in (
+      tt,
+      tt,
+      r.pass.0 ∙ i.2,
+      r.pass.1 ∙ i.3,
+      reads_turn _ _ _ _ _ _ _ _ i.3 i.4 r.sent,
+      le_trans i.5 r.later,
+      c.in_ok-read_piece.ensures.room ∙ i.6,
+      c.in_ok-read_piece.ensures.misses ∙ ap (λ (more : Bool). cond more (g.S.Source.misses c.loop.source) (risen (g.S.Source.misses c.loop.source))) c.if-not-branch.false ∙ i.7,
+    )

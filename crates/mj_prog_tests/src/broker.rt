@@ -1,6 +1,6 @@
 ghost use Rattle.std.specs.Prelude.{◌≡◌, ◌+◌, ◌<◌, ◌≤◌, ◌^◌, OnOk, length};
 
-use super::Broker;
+use mj_broker::Broker;
 use mj_base::{Event, Limits, Octets, Out, Reason};
 use std::alloc::Global;
 use std::test::Fail;

@@ -1,4 +1,4 @@
-use super::{AskFault, Hall, Origin, Request};
+use mj_queue::{AskFault, Hall, Origin, Request};
 use mj_base::{Frames, Limits, Name, Version};
 use std::alloc::Global;
 use std::test::Fail;

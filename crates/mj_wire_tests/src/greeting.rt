@@ -1,4 +1,4 @@
-use super::*;
+use mj_greeting::{GreetingFault, broker_greeting, greeting_fault, read_greeting};
 use mj_base::Reason;
 
 const SENT: &[u8; 64] =

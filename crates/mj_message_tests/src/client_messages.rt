@@ -1,4 +1,4 @@
-use super::{
+use mj_client_cmd::{
     read_client, read_reply, replies_are_one_to_one, requests_are_one_to_one, write_client,
     write_reply,
 };

@@ -1,9 +1,9 @@
 ghost use Rattle.std.specs.Prelude.{◌≡◌, ◌<◌, None, length};
 
-use super::{
+use mj_base::{Event, MemorySink, MemorySource, NoMemory, Octets};
+use mj_lanes::{
     Clock, HubPass, LanePass, TickPass, gather, lanes_new, read_loop, tick_loop, write_loop,
 };
-use mj_base::{Event, MemorySink, MemorySource, NoMemory, Octets};
 use std::alloc::{AllocError, Global};
 use std::sync::Wait;
 use std::test::Fail;

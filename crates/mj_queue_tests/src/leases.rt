@@ -1,4 +1,4 @@
-use super::Leases;
+use mj_lease::Leases;
 use mj_base::NoMemory;
 use std::alloc::Global;
 use std::test::Fail;

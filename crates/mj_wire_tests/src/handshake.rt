@@ -1,4 +1,4 @@
-use super::*;
+use mj_handshake::{SocketType, one_list, read_ready, write_ready, written_is_read};
 use mj_base::{Octets, Reason};
 use std::test::Fail;
 

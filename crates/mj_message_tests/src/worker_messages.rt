@@ -1,4 +1,4 @@
-use super::{
+use mj_worker_cmd::{
     orders_are_one_to_one, read_order, read_worker, worker_commands_are_one_to_one, write_order,
     write_worker,
 };

@@ -1,4 +1,4 @@
-use super::{
+use mj_frame::{
     Head, HeadAnswer, every_head_is_read, frames_end_once, read_head, write_frame, write_message,
     written_is_read,
 };

@@ -4,7 +4,7 @@ use Rattle.std.proofs.lemmas.List.Elements.{All-pop, All-push}
 use Rattle.mj_base.specs.declared.event.Event.{Event}
 use Rattle.mj_lanes.specs.Ends.{Name}
 use Rattle.mj_lanes.specs.Passes.{HubState, ReaderState, WriterState, TickerState, OutletState, AreOfOne}
-use Rattle.mj_lanes.proofs.tests.run_two_readers.Goals as goal
+use Rattle.mj_lanes_tests.proofs.tests.run_two_readers.Goals as goal
 
 -- the passes are of one inbox again, with two readers that have sent since in the place of two that had not
 again : (hub now : HubState) (all some rest mid back : List ReaderState) (ws : List WriterState) (ticks : TickerState) (first second first' second' : ReaderState) → AreOfOne hub all ws ticks → (now.inbox ≡ hub.inbox) × (now.outlets ≡ hub.outlets)

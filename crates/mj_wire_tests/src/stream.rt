@@ -1,4 +1,4 @@
-use super::{Wire, WireItem, items_stay, longest_cut_is_read, no_cut_is_read};
+use mj_wire::{Wire, WireItem, items_stay, longest_cut_is_read, no_cut_is_read};
 use mj_base::{Frames, Limits, Octets};
 use mj_greeting::broker_greeting;
 use std::alloc::{AllocError, Global};
