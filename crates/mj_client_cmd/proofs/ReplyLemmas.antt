@@ -6,10 +6,13 @@ use Rattle.mj_base.specs.declared.version.Version.{Version}
 use Rattle.mj_base.specs.declared.version.Version.TheVariants.{One, Two}
 use Rattle.mj_client_cmd.specs.declared.command.ClientReply.{ClientReply}
 use Rattle.mj_client_cmd.specs.ClientGrammar.{IsReplyRow, IsClientReply, IsReplyKind}
-use Rattle.mj_client_cmd.specs.ClientReading.{Begun, opening_of, named, last_of, reply_rest, reply, reply_in, reply_begun, reply_of}
+use Rattle.mj_client_cmd.specs.ClientReading.{named, last_of, reply_rest, reply, reply_in, reply_begun, reply_of}
 use Rattle.mj_client_cmd.specs.ClientWriting.{reply_code, reply_frames}
 use Rattle.mj_client_cmd.specs.Laws.{OneListOfReply, OneReplyOfList, ReplyIsRead, ReplyIsWritten}
-use Rattle.mj_client_cmd.proofs.ReadingLemmas.{same, IsBegun, opening_stands, named_stands, name_is_read}
+use Rattle.mj_client_cmd.proofs.ReadingLemmas.{named_stands, name_is_read}
+use Rattle.mj_opening.specs.Opening.{Begun, IsBegun, opening_of}
+use Rattle.mj_opening.specs.declared.party.Party.TheVariants.{Clients}
+use Rattle.mj_opening.proofs.OpeningLemmas.{same, opening_stands}
 
 last_by : (code : List ℕ) (last two three : Bool) → bytes_eq code (2 ∷ []) ≡ two → bytes_eq code (3 ∷ []) ≡ three
     → cond two (Some false) (cond three (Some true) None) ≡ Some last → code ≡ reply_code last
@@ -38,14 +41,14 @@ one_kind rest kind e =
     subst (λ (k : Bool × List (List ℕ)). (k.0 ≡ true) × (rest ≡ k.1)) q (refl, refl)
 
 row_by_code : (lead last : Bool) (rest behind : List (List ℕ)) (service : List ℕ) (body m : List (List ℕ))
-    → IsBegun Two lead rest m → rest ≡ reply_code last ∷ behind → behind ≡ service ∷ body → IsReplyRow Two lead last service body m
+    → IsBegun Clients Two lead rest m → rest ≡ reply_code last ∷ behind → behind ≡ service ∷ body → IsReplyRow Two lead last service body m
 row_by_code true true rest behind service body m b r n = cc
 row_by_code true false rest behind service body m b r n = cc
 row_by_code false true rest behind service body m b r n = cc
 row_by_code false false rest behind service body m b r n = cc
 
 reply_row : (v : Version) (lead : Bool) (rest : List (List ℕ)) (kind : Bool × List (List ℕ)) (service : List ℕ) (body m : List (List ℕ))
-    → IsBegun v lead rest m → reply_rest v rest ≡ Some kind → kind.1 ≡ service ∷ body → IsReplyRow v lead kind.0 service body m
+    → IsBegun Clients v lead rest m → reply_rest v rest ≡ Some kind → kind.1 ≡ service ∷ body → IsReplyRow v lead kind.0 service body m
 reply_row One true rest kind service body m b r n =
     let s = one_kind rest kind r in
     subst (λ (last : Bool). IsReplyRow One true last service body m) (sym s.0) (let e = s.1 in cc)
@@ -53,7 +56,7 @@ reply_row One false rest kind service body m b r n = absurd b
 reply_row Two lead rest kind service body m b r n = row_by_code lead kind.0 rest kind.1 service body m b (code_stands rest kind r) n
 
 named_reply : (b : Begun) (kind : Bool × List (List ℕ)) (m : List (List ℕ)) (r : ClientReply) (o : Option (List ℕ × List (List ℕ)))
-    → IsBegun b.version b.lead b.rest m → reply_rest b.version b.rest ≡ Some kind → named kind.1 ≡ o
+    → IsBegun Clients b.version b.lead b.rest m → reply_rest b.version b.rest ≡ Some kind → named kind.1 ≡ o
     → option_map (reply b.version b.lead kind.0) o ≡ Some r → IsClientReply r m
 named_reply b kind m r None at k is e = cc
 named_reply b kind m r (Some n) at k is e =
@@ -62,17 +65,17 @@ named_reply b kind m r (Some n) at k is e =
     subst (λ (c : ClientReply). IsClientReply c m) q (record { named = s.0; row = reply_row b.version b.lead b.rest kind n.0 n.1 m at k s.1 })
 
 coded_reply : (b : Begun) (m : List (List ℕ)) (r : ClientReply) (o : Option (Bool × List (List ℕ)))
-    → IsBegun b.version b.lead b.rest m → reply_rest b.version b.rest ≡ o → reply_in b.version b.lead o ≡ Some r → IsClientReply r m
+    → IsBegun Clients b.version b.lead b.rest m → reply_rest b.version b.rest ≡ o → reply_in b.version b.lead o ≡ Some r → IsClientReply r m
 coded_reply b m r None at is e = cc
 coded_reply b m r (Some kind) at is e = named_reply b kind m r (named kind.1) at is refl e
 
-begun_reply : (m : List (List ℕ)) (r : ClientReply) (o : Option Begun) → opening_of m ≡ o → reply_begun o ≡ Some r → IsClientReply r m
+begun_reply : (m : List (List ℕ)) (r : ClientReply) (o : Option Begun) → opening_of Clients m ≡ o → reply_begun o ≡ Some r → IsClientReply r m
 begun_reply m r None is e = cc
-begun_reply m r (Some b) is e = coded_reply b m r (reply_rest b.version b.rest) (opening_stands m b is) refl e
+begun_reply m r (Some b) is e = coded_reply b m r (reply_rest b.version b.rest) (opening_stands Clients m b is) refl e
 
 -- what is read is related
 pub reply_stands : (m : List (List ℕ)) (r : ClientReply) → reply_of m ≡ Some r → IsClientReply r m
-reply_stands m r e = begun_reply m r (opening_of m) refl e
+reply_stands m r e = begun_reply m r (opening_of Clients m) refl e
 
 row_is_read : (v : Version) (lead last : Bool) (service : List ℕ) (body m : List (List ℕ)) → IsTrue (is_service_name service) → IsReplyRow v lead last service body m
     → reply_of m ≡ Some (record { version = v; lead = lead; last = last; service = service; body = body })

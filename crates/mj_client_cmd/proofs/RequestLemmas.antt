@@ -6,10 +6,13 @@ use Rattle.mj_base.specs.declared.version.Version.{Version}
 use Rattle.mj_base.specs.declared.version.Version.TheVariants.{One, Two}
 use Rattle.mj_client_cmd.specs.declared.command.ClientCmd.{ClientCmd}
 use Rattle.mj_client_cmd.specs.ClientGrammar.{IsRequestRow, IsClientRequest, IsLed}
-use Rattle.mj_client_cmd.specs.ClientReading.{Begun, opening_of, named, request_rest, request, request_in, request_begun, client_of}
+use Rattle.mj_client_cmd.specs.ClientReading.{named, request_rest, request, request_in, request_begun, client_of}
 use Rattle.mj_client_cmd.specs.ClientWriting.{request_frames}
 use Rattle.mj_client_cmd.specs.Laws.{OneListOfRequest, OneRequestOfList, RequestIsRead, RequestIsWritten}
-use Rattle.mj_client_cmd.proofs.ReadingLemmas.{same, IsBegun, opening_stands, named_stands, name_is_read}
+use Rattle.mj_client_cmd.proofs.ReadingLemmas.{named_stands, name_is_read}
+use Rattle.mj_opening.specs.Opening.{Begun, IsBegun, opening_of}
+use Rattle.mj_opening.specs.declared.party.Party.TheVariants.{Clients}
+use Rattle.mj_opening.proofs.OpeningLemmas.{same, opening_stands}
 
 code_by : (code : List ℕ) (rest behind : List (List ℕ)) (good : Bool) → bytes_eq code (1 ∷ []) ≡ good
     → cond good (Some rest) None ≡ Some behind → code ∷ rest ≡ (1 ∷ []) ∷ behind
@@ -21,14 +24,14 @@ code_stands [] behind e = cc
 code_stands (code ∷ rest) behind e = code_by code rest behind _ refl e
 
 request_row : (v : Version) (lead : Bool) (rest behind : List (List ℕ)) (service : List ℕ) (body m : List (List ℕ))
-    → IsBegun v lead rest m → request_rest v rest ≡ Some behind → behind ≡ service ∷ body → IsRequestRow v lead service body m
+    → IsBegun Clients v lead rest m → request_rest v rest ≡ Some behind → behind ≡ service ∷ body → IsRequestRow v lead service body m
 request_row One true rest behind service body m b r n = cc
 request_row One false rest behind service body m b r n = absurd b
 request_row Two true rest behind service body m b r n = let s = code_stands rest behind r in cc
 request_row Two false rest behind service body m b r n = let s = code_stands rest behind r in cc
 
 named_request : (b : Begun) (behind m : List (List ℕ)) (cmd : ClientCmd) (o : Option (List ℕ × List (List ℕ)))
-    → IsBegun b.version b.lead b.rest m → request_rest b.version b.rest ≡ Some behind → named behind ≡ o
+    → IsBegun Clients b.version b.lead b.rest m → request_rest b.version b.rest ≡ Some behind → named behind ≡ o
     → option_map (request b.version b.lead) o ≡ Some cmd → IsClientRequest cmd m
 named_request b behind m cmd None at r is e = cc
 named_request b behind m cmd (Some n) at r is e =
@@ -37,17 +40,17 @@ named_request b behind m cmd (Some n) at r is e =
     subst (λ (c : ClientCmd). IsClientRequest c m) q (record { named = s.0; row = request_row b.version b.lead b.rest behind n.0 n.1 m at r s.1 })
 
 coded_request : (b : Begun) (m : List (List ℕ)) (cmd : ClientCmd) (o : Option (List (List ℕ)))
-    → IsBegun b.version b.lead b.rest m → request_rest b.version b.rest ≡ o → request_in b.version b.lead o ≡ Some cmd → IsClientRequest cmd m
+    → IsBegun Clients b.version b.lead b.rest m → request_rest b.version b.rest ≡ o → request_in b.version b.lead o ≡ Some cmd → IsClientRequest cmd m
 coded_request b m cmd None at is e = cc
 coded_request b m cmd (Some behind) at is e = named_request b behind m cmd (named behind) at is refl e
 
-begun_request : (m : List (List ℕ)) (cmd : ClientCmd) (o : Option Begun) → opening_of m ≡ o → request_begun o ≡ Some cmd → IsClientRequest cmd m
+begun_request : (m : List (List ℕ)) (cmd : ClientCmd) (o : Option Begun) → opening_of Clients m ≡ o → request_begun o ≡ Some cmd → IsClientRequest cmd m
 begun_request m cmd None is e = cc
-begun_request m cmd (Some b) is e = coded_request b m cmd (request_rest b.version b.rest) (opening_stands m b is) refl e
+begun_request m cmd (Some b) is e = coded_request b m cmd (request_rest b.version b.rest) (opening_stands Clients m b is) refl e
 
 -- what is read is related
 pub request_stands : (m : List (List ℕ)) (cmd : ClientCmd) → client_of m ≡ Some cmd → IsClientRequest cmd m
-request_stands m cmd e = begun_request m cmd (opening_of m) refl e
+request_stands m cmd e = begun_request m cmd (opening_of Clients m) refl e
 
 row_is_read : (v : Version) (lead : Bool) (service : List ℕ) (body m : List (List ℕ)) → IsTrue (is_service_name service) → IsRequestRow v lead service body m
     → client_of m ≡ Some (record { version = v; lead = lead; service = service; body = body })

@@ -5,28 +5,10 @@ use Rattle.std.specs.Str.{bytes_eq}
 use Rattle.mj_base.specs.ServiceName.{is_service_name}
 use Rattle.mj_base.specs.declared.version.Version.{Version}
 use Rattle.mj_base.specs.declared.version.Version.TheVariants.{One, Two}
+use Rattle.mj_opening.specs.Opening.{Begun, opening_of}
+use Rattle.mj_opening.specs.declared.party.Party.TheVariants.{Clients}
 use Rattle.mj_client_cmd.specs.declared.command.ClientCmd.{ClientCmd}
 use Rattle.mj_client_cmd.specs.declared.command.ClientReply.{ClientReply}
-
--- what a message begins with, and the frames behind that
-pub record Begun : Type 0 where
-  pub version : Version
-  pub lead : Bool
-  pub rest : List (List ℕ)
-
-abbrev pub version_of : List ℕ → Option Version
-version_of word = if bytes_eq word (codes "MDPC01") then Some One else (if bytes_eq word (codes "MDPC02") then Some Two else None)
-
-abbrev pub begun : Bool → List (List ℕ) → Version → Begun
-begun lead rest version = record { version = version; lead = lead; rest = rest }
-
-abbrev pub behind_empty : List (List ℕ) → Option Begun
-behind_empty [] = None
-behind_empty (word ∷ rest) = option_map (begun true rest) (version_of word)
-
-abbrev pub opening_of : List (List ℕ) → Option Begun
-opening_of [] = None
-opening_of (first ∷ rest) = if bytes_eq first (codes "MDPC02") then Some (begun false rest Two) else (if bytes_eq first [] then behind_empty rest else None)
 
 -- a service name, and the frames behind it
 abbrev pub named : List (List ℕ) → Option (List ℕ × List (List ℕ))
@@ -54,7 +36,7 @@ request_begun (Some b) = request_in b.version b.lead (request_rest b.version b.r
 
 -- the request that a message is
 abbrev pub client_of : List (List ℕ) → Option ClientCmd
-client_of message = request_begun (opening_of message)
+client_of message = request_begun (opening_of Clients message)
 
 -- ---- replies
 
@@ -81,4 +63,4 @@ reply_begun (Some b) = reply_in b.version b.lead (reply_rest b.version b.rest)
 
 -- the reply that a message is
 abbrev pub reply_of : List (List ℕ) → Option ClientReply
-reply_of message = reply_begun (opening_of message)
+reply_of message = reply_begun (opening_of Clients message)

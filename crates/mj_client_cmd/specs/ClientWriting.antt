@@ -3,15 +3,10 @@
 use Rattle.std.specs.Prelude.{ℕ, Bool, List, [], ◌∷◌, ◌++◌, if◌then◌else◌, codes}
 use Rattle.mj_base.specs.declared.version.Version.{Version}
 use Rattle.mj_base.specs.declared.version.Version.TheVariants.{One, Two}
+use Rattle.mj_opening.specs.Opening.{opening_frames}
+use Rattle.mj_opening.specs.declared.party.Party.TheVariants.{Clients}
 use Rattle.mj_client_cmd.specs.declared.command.ClientCmd.{ClientCmd}
 use Rattle.mj_client_cmd.specs.declared.command.ClientReply.{ClientReply}
-
-abbrev pub word_of : Version → List ℕ
-word_of One = codes "MDPC01"
-word_of Two = codes "MDPC02"
-
-abbrev pub opening_frames : Version → Bool → List (List ℕ)
-opening_frames version lead = (if lead then [] ∷ [] else []) ++ word_of version ∷ []
 
 -- a code stands in 0.2 alone
 abbrev pub code_frames : Version → List ℕ → List (List ℕ)
@@ -19,7 +14,7 @@ code_frames One code = []
 code_frames Two code = code ∷ []
 
 abbrev pub message_frames : Version → Bool → List ℕ → List ℕ → List (List ℕ) → List (List ℕ)
-message_frames version lead code service body = opening_frames version lead ++ (code_frames version code ++ service ∷ body)
+message_frames version lead code service body = opening_frames Clients version lead ++ (code_frames version code ++ service ∷ body)
 
 abbrev pub request_frames : ClientCmd → List (List ℕ)
 request_frames cmd = message_frames cmd.version cmd.lead (1 ∷ []) cmd.service cmd.body

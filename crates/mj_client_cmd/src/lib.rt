@@ -3,7 +3,6 @@
 
 mod command;
 mod laws;
-mod opening;
 mod parts;
 mod reply;
 mod request;

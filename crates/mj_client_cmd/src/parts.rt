@@ -1,6 +1,5 @@
 //! Single frames of a message.
 ghost use Rattle.std.specs.Prelude.{◌≡◌, ◌+◌, drop, MatchOption};
-ghost use Rattle.std.specs.Str.{bytes_eq};
 ghost use Rattle.mj_client_cmd.specs.ClientReading.{named};
 
 use mj_base::{Frames, Name};
@@ -10,10 +9,4 @@ pub(crate) fn name_at(message: &Frames, at: usize) -> Option<Name>
     ensures { MatchOption result (named (drop at message.now) ≡ None) (λ name. named (drop at message.now) ≡ Some (name, drop (at + 1) message.now)) }
 {
     Name::of(message.get(at)?)
-}
-
-pub(crate) fn is_same(frame: &[u8], other: &[u8]) -> bool
-    ensures { result ≡ bytes_eq frame.now other.now }
-{
-    frame == other
 }

@@ -6,10 +6,10 @@ ghost use Rattle.mj_client_cmd.specs.ClientWriting.{reply_frames, reply_code};
 ghost use Rattle.mj_client_cmd.specs.declared.command.ClientReply.{ClientReply as Reply};
 
 use super::ClientReply;
-use super::opening::{Beginning, opening};
-use super::parts::{is_same, name_at};
+use super::parts::name_at;
 use super::write::write_message;
 use mj_base::{Frames, Name, NoMemory, Version};
+use mj_opening::{Beginning, Party, is_same, read_opening};
 use std::alloc::Global;
 
 const PARTIAL: &[u8] = b"\x02";
@@ -73,7 +73,7 @@ pub fn write_reply(alloc: Global, reply: &ClientReply) -> Result<Frames, NoMemor
 fn reply_head(message: &Frames) -> Option<ReplyHead>
     ensures { MatchOption result (reply_of message.now ≡ None) (λ head. reply_of message.now ≡ Some (record { version = head.version; lead = head.lead; last = head.last; service = head.service; body = drop head.body message.now })) }
 {
-    let opening = opening(message)?;
+    let opening = read_opening(Party::Clients, message)?;
     let kind = reply_kind(message, &opening)?;
     let service = name_at(message, kind.name)?;
     Some(ReplyHead {

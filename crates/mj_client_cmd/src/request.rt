@@ -5,10 +5,10 @@ ghost use Rattle.mj_client_cmd.specs.ClientWriting.{request_frames};
 ghost use Rattle.mj_client_cmd.specs.declared.command.ClientCmd.{ClientCmd as Cmd};
 
 use super::ClientCmd;
-use super::opening::{Beginning, opening};
-use super::parts::{is_same, name_at};
+use super::parts::name_at;
 use super::write::write_message;
 use mj_base::{Frames, Name, NoMemory, Version};
+use mj_opening::{Beginning, Party, is_same, read_opening};
 use std::alloc::Global;
 
 const REQUEST: &[u8] = b"\x01";
@@ -60,7 +60,7 @@ pub fn write_client(alloc: Global, cmd: &ClientCmd) -> Result<Frames, NoMemory>
 fn request_head(message: &Frames) -> Option<RequestHead>
     ensures { MatchOption result (client_of message.now ≡ None) (λ head. client_of message.now ≡ Some (record { version = head.version; lead = head.lead; service = head.service; body = drop head.body message.now })) }
 {
-    let opening = opening(message)?;
+    let opening = read_opening(Party::Clients, message)?;
     let at = name_place(message, &opening)?;
     let service = name_at(message, at)?;
     Some(RequestHead {

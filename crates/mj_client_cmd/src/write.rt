@@ -1,9 +1,9 @@
 ghost use Rattle.std.specs.Prelude.{◌≡◌, ◌++◌, IfOk, OnOk, IsTrue};
 ghost use Rattle.mj_base.specs.ServiceName.{is_service_name};
-ghost use Rattle.mj_client_cmd.specs.ClientWriting.{opening_frames, code_frames, message_frames};
+ghost use Rattle.mj_client_cmd.specs.ClientWriting.{code_frames, message_frames};
 
-use super::opening::{WORD_ONE, WORD_TWO};
 use mj_base::{Frames, Name, NoMemory, Version};
+use mj_opening::{Party, push_opening};
 use std::alloc::Global;
 
 /// The frames of a request or a reply; its code stands in 0.2 alone.
@@ -19,23 +19,11 @@ pub(crate) fn write_message(
     ensures named { OnOk result (IsTrue (is_service_name service.now)) }
 {
     let mut message = Frames::new(alloc);
-    push_opening(version, lead, &mut message)?;
+    push_opening(Party::Clients, version, lead, &mut message)?;
     push_code(version, code, &mut message)?;
     message.push(service.as_slice())?;
     message.append_from(body, 0)?;
     Ok(message)
-}
-
-fn push_opening(version: Version, lead: bool, out: &mut Frames) -> Result<(), NoMemory>
-    ensures { OnOk result (out.new ≡ out.old ++ opening_frames version lead) }
-{
-    if lead {
-        out.push(b"")?;
-    }
-    match version {
-        Version::One => out.push(WORD_ONE),
-        Version::Two => out.push(WORD_TWO),
-    }
 }
 
 fn push_code(version: Version, code: &[u8], out: &mut Frames) -> Result<(), NoMemory>

@@ -8,7 +8,7 @@ use Rattle.mj_worker_cmd.specs.declared.kind.WorkerKind.TheVariants.{Ready, Repl
 use Rattle.mj_worker_cmd.specs.declared.kind.OrderKind.{OrderKind}
 use Rattle.mj_worker_cmd.specs.declared.kind.OrderKind.TheVariants as order
 use Rattle.mj_worker_cmd.specs.Codes.{or_code, worker_code, order_code, worker_kind_one, worker_kind_two, worker_kind, order_kind}
-use Rattle.mj_worker_cmd.proofs.OpeningLemmas.{same}
+use Rattle.mj_opening.proofs.OpeningLemmas.{same}
 
 code_by : {X : Type 0} (frame code : List ℕ) (kind found : X) (other : Option X) (b : Bool) → bytes_eq frame code ≡ b → cond b (Some kind) other ≡ Some found
     → ((frame ≡ code) × (kind ≡ found)) ⊎ (other ≡ Some found)

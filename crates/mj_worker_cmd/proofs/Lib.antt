@@ -1,4 +1,3 @@
-pub mod OpeningLemmas
 pub mod CodeLemmas
 pub mod WorkerLemmas
 pub mod OrderLemmas

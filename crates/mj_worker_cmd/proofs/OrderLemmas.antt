@@ -10,12 +10,14 @@ use Rattle.mj_worker_cmd.specs.declared.kind.OrderKind.{OrderKind}
 use Rattle.mj_worker_cmd.specs.declared.kind.OrderKind.TheVariants as kinds
 use Rattle.mj_worker_cmd.specs.declared.envelope.Envelope.{Envelope}
 use Rattle.mj_worker_cmd.specs.WorkerGrammar.{IsOrderRow, IsOrder, IsLed}
-use Rattle.mj_worker_cmd.specs.Opening.{Begun, opening_of}
+use Rattle.mj_opening.specs.declared.party.Party.TheVariants.{Workers}
+use Rattle.mj_opening.specs.Opening.{Begun, opening_of}
 use Rattle.mj_worker_cmd.specs.Codes.{order_code, order_kind}
 use Rattle.mj_worker_cmd.specs.WorkerReading.{order_act, order_in, order_coded, order_cmd, order_begun, order_of}
 use Rattle.mj_worker_cmd.specs.WorkerWriting.{order_act_kind, order_act_frames, order_frames}
 use Rattle.mj_worker_cmd.specs.Laws.{OneListOfOrder, OneOrderOfList, OrderIsRead, OrderIsWritten}
-use Rattle.mj_worker_cmd.proofs.OpeningLemmas.{same, IsBegun, opening_stands}
+use Rattle.mj_opening.specs.Opening.{IsBegun}
+use Rattle.mj_opening.proofs.OpeningLemmas.{same, opening_stands}
 use Rattle.mj_worker_cmd.proofs.CodeLemmas.{order_kind_stands}
 
 -- the frames behind the code of this kind are those of the command
@@ -45,7 +47,7 @@ act_stands kinds.Disconnect [] act e =
 act_stands kinds.Disconnect (frame ∷ rest) act e = cc
 
 row_stands : (v : Version) (lead : Bool) (act : OrderAct) (code : List ℕ) (rest m : List (List ℕ))
-    → IsBegun v lead (code ∷ rest) m → code ≡ order_code v (order_act_kind act) → rest ≡ order_act_frames act → IsOrderRow v lead act m
+    → IsBegun Workers v lead (code ∷ rest) m → code ≡ order_code v (order_act_kind act) → rest ≡ order_act_frames act → IsOrderRow v lead act m
 row_stands One true (Request address body) code rest m b c r = cc
 row_stands One true Heartbeat code rest m b c r = cc
 row_stands One true Disconnect code rest m b c r = cc
@@ -58,31 +60,31 @@ row_stands Two false Heartbeat code rest m b c r = cc
 row_stands Two false Disconnect code rest m b c r = cc
 
 kind_acts : (v : Version) (lead : Bool) (code : List ℕ) (rest m : List (List ℕ)) (act : OrderAct) (o : Option OrderKind)
-    → IsBegun v lead (code ∷ rest) m → order_kind v code ≡ o → order_in o rest ≡ Some act → IsOrderRow v lead act m
+    → IsBegun Workers v lead (code ∷ rest) m → order_kind v code ≡ o → order_in o rest ≡ Some act → IsOrderRow v lead act m
 kind_acts v lead code rest m act None b is e = cc
 kind_acts v lead code rest m act (Some kind) b is e =
     let a = act_stands kind rest act e in
     let c = order_kind_stands v code kind is in
     row_stands v lead act code rest m b (subst (λ (k : OrderKind). code ≡ order_code v k) a.0 c) a.1
 
-coded_acts : (v : Version) (lead : Bool) (rest m : List (List ℕ)) (act : OrderAct) → IsBegun v lead rest m → order_coded v rest ≡ Some act → IsOrderRow v lead act m
+coded_acts : (v : Version) (lead : Bool) (rest m : List (List ℕ)) (act : OrderAct) → IsBegun Workers v lead rest m → order_coded v rest ≡ Some act → IsOrderRow v lead act m
 coded_acts v lead [] m act b e = cc
 coded_acts v lead (code ∷ rest) m act b e = kind_acts v lead code rest m act (order_kind v code) b refl e
 
 order_by : (v : Version) (lead : Bool) (rest m : List (List ℕ)) (cmd : Order) (o : Option OrderAct)
-    → IsBegun v lead rest m → order_coded v rest ≡ o → option_map (order_cmd v lead) o ≡ Some cmd → IsOrder cmd m
+    → IsBegun Workers v lead rest m → order_coded v rest ≡ o → option_map (order_cmd v lead) o ≡ Some cmd → IsOrder cmd m
 order_by v lead rest m cmd None b is e = cc
 order_by v lead rest m cmd (Some act) b is e =
     let q : order_cmd v lead act ≡ cmd = cc in
     subst (λ (c : Order). IsOrder c m) q (record { row = coded_acts v lead rest m act b is })
 
-begun_order : (m : List (List ℕ)) (cmd : Order) (o : Option Begun) → opening_of m ≡ o → order_begun o ≡ Some cmd → IsOrder cmd m
+begun_order : (m : List (List ℕ)) (cmd : Order) (o : Option Begun) → opening_of Workers m ≡ o → order_begun o ≡ Some cmd → IsOrder cmd m
 begun_order m cmd None is e = cc
-begun_order m cmd (Some b) is e = order_by b.version b.lead b.rest m cmd (order_coded b.version b.rest) (opening_stands m b is) refl e
+begun_order m cmd (Some b) is e = order_by b.version b.lead b.rest m cmd (order_coded b.version b.rest) (opening_stands Workers m b is) refl e
 
 -- what is read is related
 pub order_stands : (m : List (List ℕ)) (cmd : Order) → order_of m ≡ Some cmd → IsOrder cmd m
-order_stands m cmd e = begun_order m cmd (opening_of m) refl e
+order_stands m cmd e = begun_order m cmd (opening_of Workers m) refl e
 
 row_is_read : (v : Version) (lead : Bool) (act : OrderAct) (m : List (List ℕ)) → IsOrderRow v lead act m → order_of m ≡ Some (order_cmd v lead act)
 row_is_read One true (Request address body) m row = ap order_of row

@@ -12,12 +12,14 @@ use Rattle.mj_worker_cmd.specs.declared.kind.WorkerKind.{WorkerKind}
 use Rattle.mj_worker_cmd.specs.declared.kind.WorkerKind.TheVariants as kinds
 use Rattle.mj_worker_cmd.specs.declared.envelope.Envelope.{Envelope}
 use Rattle.mj_worker_cmd.specs.WorkerGrammar.{IsWorkerRow, IsWorkerCommand, IsSpoken, IsActNamed}
-use Rattle.mj_worker_cmd.specs.Opening.{Begun, opening_of}
+use Rattle.mj_opening.specs.declared.party.Party.TheVariants.{Workers}
+use Rattle.mj_opening.specs.Opening.{Begun, opening_of}
 use Rattle.mj_worker_cmd.specs.Codes.{worker_kind}
 use Rattle.mj_worker_cmd.specs.WorkerReading.{ready_of, reply_of, worker_act, worker_in, worker_coded, worker_cmd, worker_begun, worker_of}
 use Rattle.mj_worker_cmd.specs.WorkerWriting.{act_kind, act_frames, worker_frames}
 use Rattle.mj_worker_cmd.specs.Laws.{OneListOfCommand, OneCommandOfList, CommandIsRead, CommandIsWritten}
-use Rattle.mj_worker_cmd.proofs.OpeningLemmas.{same, IsBegun, opening_stands}
+use Rattle.mj_opening.specs.Opening.{IsBegun}
+use Rattle.mj_opening.proofs.OpeningLemmas.{same, opening_stands}
 use Rattle.mj_worker_cmd.proofs.CodeLemmas.{IsCode, worker_kind_stands}
 
 -- the frames behind the code of this kind are those of the command
@@ -63,7 +65,7 @@ act_stands kinds.Disconnect [] act e =
 act_stands kinds.Disconnect (frame ∷ rest) act e = cc
 
 row_stands : (v : Version) (lead : Bool) (act : WorkerAct) (code : List ℕ) (rest m : List (List ℕ))
-    → IsBegun v lead (code ∷ rest) m → IsCode v (act_kind act) code → rest ≡ act_frames act → IsActNamed act → IsWorkerRow v lead act m
+    → IsBegun Workers v lead (code ∷ rest) m → IsCode v (act_kind act) code → rest ≡ act_frames act → IsActNamed act → IsWorkerRow v lead act m
 row_stands One true (Ready service) code rest m b c r n = (n, let d = c.1 in cc)
 row_stands One true (Reply false address body) code rest m b c r n = let d = c.0 in cc
 row_stands One true (Reply true address body) code rest m b c r n = let d = c.1 in cc
@@ -82,31 +84,31 @@ row_stands Two false Heartbeat code rest m b c r n = let d = c.1 in cc
 row_stands Two false Disconnect code rest m b c r n = let d = c.1 in cc
 
 kind_acts : (v : Version) (lead : Bool) (code : List ℕ) (rest m : List (List ℕ)) (act : WorkerAct) (o : Option WorkerKind)
-    → IsBegun v lead (code ∷ rest) m → worker_kind v code ≡ o → worker_in o rest ≡ Some act → IsWorkerRow v lead act m
+    → IsBegun Workers v lead (code ∷ rest) m → worker_kind v code ≡ o → worker_in o rest ≡ Some act → IsWorkerRow v lead act m
 kind_acts v lead code rest m act None b is e = cc
 kind_acts v lead code rest m act (Some kind) b is e =
     let a = act_stands kind rest act e in
     let c = worker_kind_stands v code kind is in
     row_stands v lead act code rest m b (subst (λ (k : WorkerKind). IsCode v k code) a.0 c) a.1 a.2
 
-coded_acts : (v : Version) (lead : Bool) (rest m : List (List ℕ)) (act : WorkerAct) → IsBegun v lead rest m → worker_coded v rest ≡ Some act → IsWorkerRow v lead act m
+coded_acts : (v : Version) (lead : Bool) (rest m : List (List ℕ)) (act : WorkerAct) → IsBegun Workers v lead rest m → worker_coded v rest ≡ Some act → IsWorkerRow v lead act m
 coded_acts v lead [] m act b e = cc
 coded_acts v lead (code ∷ rest) m act b e = kind_acts v lead code rest m act (worker_kind v code) b refl e
 
 command_by : (v : Version) (lead : Bool) (rest m : List (List ℕ)) (cmd : WorkerCmd) (o : Option WorkerAct)
-    → IsBegun v lead rest m → worker_coded v rest ≡ o → option_map (worker_cmd v lead) o ≡ Some cmd → IsWorkerCommand cmd m
+    → IsBegun Workers v lead rest m → worker_coded v rest ≡ o → option_map (worker_cmd v lead) o ≡ Some cmd → IsWorkerCommand cmd m
 command_by v lead rest m cmd None b is e = cc
 command_by v lead rest m cmd (Some act) b is e =
     let q : worker_cmd v lead act ≡ cmd = cc in
     subst (λ (c : WorkerCmd). IsWorkerCommand c m) q (record { row = coded_acts v lead rest m act b is })
 
-begun_command : (m : List (List ℕ)) (cmd : WorkerCmd) (o : Option Begun) → opening_of m ≡ o → worker_begun o ≡ Some cmd → IsWorkerCommand cmd m
+begun_command : (m : List (List ℕ)) (cmd : WorkerCmd) (o : Option Begun) → opening_of Workers m ≡ o → worker_begun o ≡ Some cmd → IsWorkerCommand cmd m
 begun_command m cmd None is e = cc
-begun_command m cmd (Some b) is e = command_by b.version b.lead b.rest m cmd (worker_coded b.version b.rest) (opening_stands m b is) refl e
+begun_command m cmd (Some b) is e = command_by b.version b.lead b.rest m cmd (worker_coded b.version b.rest) (opening_stands Workers m b is) refl e
 
 -- what is read is related
 pub command_stands : (m : List (List ℕ)) (cmd : WorkerCmd) → worker_of m ≡ Some cmd → IsWorkerCommand cmd m
-command_stands m cmd e = begun_command m cmd (opening_of m) refl e
+command_stands m cmd e = begun_command m cmd (opening_of Workers m) refl e
 
 ready_is_read : (service : List ℕ) → IsTrue (is_service_name service) → ready_of (service ∷ []) ≡ Some (Ready service)
 ready_is_read service good = cond-true (is_service_name service) (Some (Ready service)) None good

@@ -1,5 +1,4 @@
 pub mod WorkerGrammar
-pub mod Opening
 pub mod Codes
 pub mod WorkerReading
 pub mod WorkerWriting

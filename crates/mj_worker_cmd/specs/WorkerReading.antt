@@ -14,7 +14,8 @@ use Rattle.mj_worker_cmd.specs.declared.kind.WorkerKind.{WorkerKind}
 use Rattle.mj_worker_cmd.specs.declared.kind.WorkerKind.TheVariants as kinds
 use Rattle.mj_worker_cmd.specs.declared.kind.OrderKind.{OrderKind}
 use Rattle.mj_worker_cmd.specs.declared.kind.OrderKind.TheVariants as order_kinds
-use Rattle.mj_worker_cmd.specs.Opening.{Begun, opening_of}
+use Rattle.mj_opening.specs.declared.party.Party.TheVariants.{Workers}
+use Rattle.mj_opening.specs.Opening.{Begun, opening_of}
 use Rattle.mj_worker_cmd.specs.Codes.{worker_kind, order_kind}
 
 -- ---- the frames behind a code
@@ -67,7 +68,7 @@ worker_begun (Some b) = option_map (worker_cmd b.version b.lead) (worker_coded b
 
 -- the worker's command that a message is
 abbrev pub worker_of : List (List ℕ) → Option WorkerCmd
-worker_of message = worker_begun (opening_of message)
+worker_of message = worker_begun (opening_of Workers message)
 
 -- ---- commands of the broker
 
@@ -93,4 +94,4 @@ order_begun (Some b) = option_map (order_cmd b.version b.lead) (order_coded b.ve
 
 -- the broker's command to a worker that a message is
 abbrev pub order_of : List (List ℕ) → Option Order
-order_of message = order_begun (opening_of message)
+order_of message = order_begun (opening_of Workers message)

@@ -10,7 +10,8 @@ use Rattle.mj_worker_cmd.specs.declared.kind.WorkerKind.{WorkerKind}
 use Rattle.mj_worker_cmd.specs.declared.kind.WorkerKind.TheVariants as kinds
 use Rattle.mj_worker_cmd.specs.declared.kind.OrderKind.{OrderKind}
 use Rattle.mj_worker_cmd.specs.declared.kind.OrderKind.TheVariants as order_kinds
-use Rattle.mj_worker_cmd.specs.Opening.{opening_frames}
+use Rattle.mj_opening.specs.declared.party.Party.TheVariants.{Workers}
+use Rattle.mj_opening.specs.Opening.{opening_frames}
 use Rattle.mj_worker_cmd.specs.Codes.{worker_code, order_code}
 
 abbrev pub act_kind : WorkerAct → WorkerKind
@@ -27,7 +28,7 @@ act_frames Heartbeat = []
 act_frames Disconnect = []
 
 abbrev pub worker_frames : WorkerCmd → List (List ℕ)
-worker_frames cmd = opening_frames cmd.version cmd.lead ++ worker_code cmd.version (act_kind cmd.act) ∷ act_frames cmd.act
+worker_frames cmd = opening_frames Workers cmd.version cmd.lead ++ worker_code cmd.version (act_kind cmd.act) ∷ act_frames cmd.act
 
 abbrev pub order_act_kind : OrderAct → OrderKind
 order_act_kind (order.Request address body) = order_kinds.Request
@@ -40,4 +41,4 @@ order_act_frames order.Heartbeat = []
 order_act_frames order.Disconnect = []
 
 abbrev pub order_frames : Order → List (List ℕ)
-order_frames cmd = opening_frames cmd.version cmd.lead ++ order_code cmd.version (order_act_kind cmd.act) ∷ order_act_frames cmd.act
+order_frames cmd = opening_frames Workers cmd.version cmd.lead ++ order_code cmd.version (order_act_kind cmd.act) ∷ order_act_frames cmd.act

@@ -2,8 +2,8 @@
 ghost use Rattle.std.specs.Prelude.{◌≡◌};
 ghost use Rattle.mj_worker_cmd.specs.Codes;
 
-use super::opening::is_same;
 use mj_base::Version;
+use mj_opening::is_same;
 
 const ONE: &[u8] = b"\x01";
 

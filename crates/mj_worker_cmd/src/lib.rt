@@ -5,7 +5,6 @@ mod command;
 mod envelope;
 mod kind;
 mod laws;
-mod opening;
 mod order_message;
 mod worker_message;
 

@@ -7,9 +7,9 @@ ghost use Rattle.mj_worker_cmd.specs.declared.command.Order.{Order as AnOrder};
 
 use super::envelope::{push_envelope, read_envelope};
 use super::kind::{OrderKind, order_code, order_kind};
-use super::opening::{Beginning, opening, push_opening};
 use super::{Order, OrderAct};
 use mj_base::{Frames, NoMemory};
+use mj_opening::{Beginning, Party, push_opening, read_opening};
 use std::alloc::Global;
 
 /// The broker's command to a worker that this message is, or None where it is none.
@@ -18,7 +18,7 @@ pub fn read_order(alloc: Global, message: &Frames) -> Result<Option<Order>, NoMe
     ensures found { IfOk result (λ r. IfSome r (λ order. IsOrder order message.now)) }
     ensures only { IfOk result (λ r. IfNone r ((order : AnOrder) → IsOrder order message.now → ⊥)) }
 {
-    let Some(opening) = opening(message) else {
+    let Some(opening) = read_opening(Party::Workers, message) else {
         return Ok(None);
     };
     let Some(act) = read_act(alloc, message, &opening)? else {
@@ -39,7 +39,7 @@ pub fn write_order(alloc: Global, order: &Order) -> Result<Frames, NoMemory>
     ensures read { IsLed order.now.version order.now.lead → IfOk result (λ message. order_of message ≡ Some order.now) }
 {
     let mut message = Frames::new(alloc);
-    push_opening(order.version, order.lead, &mut message)?;
+    push_opening(Party::Workers, order.version, order.lead, &mut message)?;
     message.push(order_code(order.version, kind_of(&order.act)))?;
     push_act(&order.act, &mut message)?;
     Ok(message)

@@ -6,9 +6,9 @@ ghost use Rattle.mj_worker_cmd.specs.declared.command.WorkerCmd.{WorkerCmd as Cm
 
 use super::envelope::{push_envelope, read_envelope};
 use super::kind::{WorkerKind, worker_code, worker_kind};
-use super::opening::{Beginning, opening, push_opening};
 use super::{WorkerAct, WorkerCmd};
 use mj_base::{Frames, Name, NoMemory};
+use mj_opening::{Beginning, Party, push_opening, read_opening};
 use std::alloc::Global;
 
 /// The worker's command that this message is, or None where it is none.
@@ -17,7 +17,7 @@ pub fn read_worker(alloc: Global, message: &Frames) -> Result<Option<WorkerCmd>,
     ensures found { IfOk result (λ r. IfSome r (λ cmd. IsWorkerCommand cmd message.now)) }
     ensures only { IfOk result (λ r. IfNone r ((cmd : Cmd) → IsWorkerCommand cmd message.now → ⊥)) }
 {
-    let Some(opening) = opening(message) else {
+    let Some(opening) = read_opening(Party::Workers, message) else {
         return Ok(None);
     };
     let Some(act) = read_act(alloc, message, &opening)? else {
@@ -38,7 +38,7 @@ pub fn write_worker(alloc: Global, cmd: &WorkerCmd) -> Result<Frames, NoMemory>
     ensures read { IfOk result (λ message. worker_of message ≡ Some cmd.now) }
 {
     let mut message = Frames::new(alloc);
-    push_opening(cmd.version, cmd.lead, &mut message)?;
+    push_opening(Party::Workers, cmd.version, cmd.lead, &mut message)?;
     message.push(worker_code(cmd.version, kind_of(&cmd.act)))?;
     push_act(&cmd.act, &mut message)?;
     Ok(message)

@@ -1,0 +1,8 @@
+/// With whom the broker speaks in a message.
+#[derive(Clone, Copy, Debug, PartialEq, Eq)]
+pub enum Party {
+    /// Majordomo/Client: `MDPC01`, `MDPC02`.
+    Clients,
+    /// Majordomo/Worker: `MDPW01`, `MDPW02`.
+    Workers,
+}
