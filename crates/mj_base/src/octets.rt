@@ -27,6 +27,13 @@ impl Octets {
         }
     }
 
+    /// The bytes of a vector, which keeps the room that it has.
+    pub fn from_vec(bytes: Vec<u8>) -> Octets
+        ensures { result ≡ bytes.items }
+    {
+        Octets { bytes }
+    }
+
     /// Appends these bytes. Without memory nothing is appended.
     pub fn push_all(&mut self, more: &[u8]) -> Result<(), NoMemory>
         ensures ok { OnOk result (self.new ≡ self.old ++ more.now) }
