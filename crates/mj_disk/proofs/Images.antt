@@ -1,9 +1,9 @@
 -- What a crash leaves of a list of bytes that was all synced, after one write.
 use Rattle.std.proofs.Common.{◌≡◌, ℕ, ◌+◌, ◌<◌, ◌≤◌, List, [], ◌∷◌, ◌++◌, length, get_or, take, drop, sym, ◌∙◌, ap, inl, inr, arith, append_assoc, length-append, length-drop, take-append-drop}
 use Rattle.std.proofs.lemmas.List.{take_at, drop_at, drop_more, drop-drop, ext_get_or, get_or-take, get_or-drop, length-take-le}
-use Rattle.mj_disk.specs.Content.{Content, IsImage, settled, spliced, touched, written}
-use Rattle.mj_disk.specs.DiskModel.{Touches}
-use Rattle.mj_disk.specs.Laws.{InNone-front}
+use Rattle.mj_disk.specs.Content.{Content, IsImage, settled, spliced, touched, written, Spoils}
+use Rattle.mj_disk.specs.DiskModel.{Touches, SpoilsAt}
+use Rattle.mj_disk.specs.Laws.{InNone-front, length-spliced}
 
 -- the only image of what is synced is what a read gives
 pub settled_is : (octets image : List ℕ) → IsImage (settled octets) image → image ≡ octets
@@ -102,3 +102,42 @@ spliced_at front x rest y at place =
     ap (λ (l : List ℕ). l ++ (y ∷ []) ++ drop (at + 1) (front ++ x ∷ rest)) start
     ∙ ap (λ (l : List ℕ). front ++ (y ∷ []) ++ l) end
     ∙ append_assoc front (y ∷ []) rest
+
+-- a write spoils no more than its range
+pub written_spoils : (at : ℕ) (octets : List ℕ) (held : Content) → at ≤ length held.octets → SpoilsAt at (length octets) held (written at octets held)
+written_spoils at octets held inside =
+    let front : length (take at held.octets) ≡ at = length-take-le at held.octets inside in
+    let seam : length (take at held.octets ++ octets) ≡ at + length octets = omega (arith, length-append (take at held.octets) octets) in
+    let sized = length-spliced at octets held.octets in
+    let rest = length-drop (at + length octets) held.octets in
+    record {
+      before = ap (λ (l : List ℕ). take at l) (append_assoc (take at held.octets) octets (drop (at + length octets) held.octets)) ∙ take_at (take at held.octets) (octets ++ drop (at + length octets) held.octets) at front;
+      behind = drop_at (take at held.octets ++ octets) (drop (at + length octets) held.octets) (at + length octets) seam;
+      no_shorter = omega arith;
+      no_longer = omega arith;
+    }
+
+-- a failed write behind a byte leaves all up to that byte, and one of one byte all but that byte
+pub spoiled_behind : (front : List ℕ) (x : ℕ) (rest : List ℕ) (at n : ℕ) (new : List ℕ) → at ≡ length front + 1 → Spoils at n (front ++ x ∷ rest) new → new ≡ front ++ x ∷ drop at new
+spoiled_behind front x rest at n new place spoils =
+    let seam : length (front ++ x ∷ []) ≡ at = omega (arith, length-append front (x ∷ [])) in
+    let grouped : front ++ x ∷ rest ≡ (front ++ x ∷ []) ++ rest = sym (append_assoc front (x ∷ []) rest) in
+    let start : take at (front ++ x ∷ rest) ≡ front ++ x ∷ [] = ap (λ (l : List ℕ). take at l) grouped ∙ take_at (front ++ x ∷ []) rest at seam in
+    sym (take-append-drop at new)
+    ∙ ap (λ (l : List ℕ). l ++ drop at new) (spoils.before ∙ start)
+    ∙ append_assoc front (x ∷ []) (drop at new)
+
+pub spoiled_at : (front : List ℕ) (x : ℕ) (rest : List ℕ) (at : ℕ) (new : List ℕ) → at ≡ length front → Spoils at 1 (front ++ x ∷ rest) new → (y : ℕ) × (new ≡ front ++ y ∷ rest)
+spoiled_at front x rest at new place spoils =
+    let whole = length-append front (x ∷ rest) in
+    let long : at < length new = omega (arith, spoils.no_shorter) in
+    let start : take at (front ++ x ∷ rest) ≡ front = take_at front (x ∷ rest) at (sym place) in
+    let seam : length (front ++ x ∷ []) ≡ at + 1 = omega (arith, length-append front (x ∷ [])) in
+    let grouped : front ++ x ∷ rest ≡ (front ++ x ∷ []) ++ rest = sym (append_assoc front (x ∷ []) rest) in
+    let end : drop (at + 1) (front ++ x ∷ rest) ≡ rest = ap (λ (l : List ℕ). drop (at + 1) l) grouped ∙ drop_at (front ++ x ∷ []) rest (at + 1) seam in
+    let here : drop at new ≡ get_or new at 0 ∷ drop (at + 1) new = drop_more new at 0 long in (
+      get_or new at 0,
+      sym (take-append-drop at new)
+          ∙ ap (λ (l : List ℕ). l ++ drop at new) (spoils.before ∙ start)
+          ∙ ap (λ (l : List ℕ). front ++ l) (here ∙ ap (λ (l : List ℕ). get_or new at 0 ∷ l) (spoils.behind ∙ end)),
+    )

@@ -1,8 +1,8 @@
 -- How what a crash may leave goes on over a run of calls.
-use Rattle.std.proofs.Common.{◌≡◌, ℕ, ◌<◌, ◌≤◌, ◌⊎◌, List, [], ◌∷◌, Option, Some, None, sym, ◌∙◌, ap, subst, inl, inr, ⊎_elim, refl, arith}
-use Rattle.mj_disk.specs.Content.{Content, IsImage}
-use Rattle.mj_disk.specs.DiskModel.{History, changed, EndedSince, LeftSince, latest, Changes, Syncs, LeavesOnly}
-use Rattle.mj_disk.proofs.Images.{settled_is}
+use Rattle.std.proofs.Common.{◌≡◌, ℕ, ◌<◌, ◌≤◌, ◌⊎◌, List, [], ◌∷◌, length, true, false, Option, Some, None, is_some, sym, ◌∙◌, ap, subst, inl, inr, ⊎_elim, refl, arith}
+use Rattle.mj_disk.specs.Content.{Content, IsImage, written, settled}
+use Rattle.mj_disk.specs.DiskModel.{History, Becomes, Turns, SpoilsAt, changed, EndedSince, LeftSince, latest, Changes, Syncs, LeavesOnly, LeavesOn}
+use Rattle.mj_disk.proofs.Images.{settled_is, written_spoils}
 
 none_since : (past : List (ℕ × Content)) (moment : ℕ) (image : List ℕ) → latest past ≤ moment → EndedSince past moment image → ⊥
 none_since [] moment image le ended = ended
@@ -22,10 +22,10 @@ told_only_now told history moment image is le left =
 pub counts_now : (told : Option History) (history : History) (moment : ℕ) (image : List ℕ) → told ≡ Some history → IsImage history.now image → LeftSince told moment image
 counts_now told history moment image is now = subst (λ (t : Option History). LeftSince t moment image) (sym is) (inl now)
 
--- a disk that doesn't tell afterwards didn't tell before
-pub told_before : (before after : Option History) (history : History) → (before ≡ None → after ≡ None) → after ≡ Some history → (old : History) × (before ≡ Some old)
-told_before None after history silent is = absurd (let none : None ≡ Some history = sym (silent refl) ∙ is in cc)
-told_before (Some old) after history silent is = (old, refl)
+-- what tells afterwards told before
+pub told_before : (before after : Option History) (history : History) → is_some after ≡ is_some before → after ≡ Some history → (old : History) × (before ≡ Some old)
+told_before None after history telling is = absurd (let none : is_some (Some history) ≡ false = ap is_some (sym is) ∙ telling in cc none)
+told_before (Some old) after history telling is = (old, refl)
 
 -- nothing was written
 pub stays : (old new : Option History) (history : History) (moments : ℕ × ℕ) (P : List ℕ → Type 0) → old ≡ Some history → new ≡ old → latest history.past ≤ moments.0 → moments.0 ≤ moments.1 → ((image : List ℕ) → IsImage history.now image → P image) → LeavesOnly moments old new P
@@ -55,6 +55,11 @@ then_leaves start middle end old mid new P Q first second weaker = record {
       (λ now. inr (weaker image now))
       (second.before moment image (omega (arith, le, first.later)) left);
 }
+
+-- a run that goes on
+pub leaves_on : (moments : ℕ × ℕ) (mid new : Option History) (P : List ℕ → Type 0) → LeavesOnly moments mid new P → LeavesOn P moments mid new
+leaves_on moments mid new P second start before first =
+    then_leaves start moments.0 moments.1 before mid new P P first second (λ image here. here)
 
 -- one change more
 added : (start middle end : ℕ) (old mid : Option History) (held : History) (next : Content) (P : List ℕ → Type 0) → LeavesOnly (start, middle) old mid P → mid ≡ Some held → middle ≤ end → ((image : List ℕ) → IsImage next image → P image) → LeavesOnly (start, end) old (Some (changed end next held)) P
@@ -104,3 +109,15 @@ changes_by how start moment end held new next new_is end_is later how_is history
     (λ (h : History). (Some new ≡ Some h) ⊎ ((x : Content) × (Some new ≡ Some (changed end x h)) × (start < end) × how h.now x))
     same
     (inr (next, ap (λ (h : History). Some h) timed, rises, how_is))
+
+-- a write whose bytes a failed sync left unsynced
+pub spoiled_by : (at n : ℕ) (octets : List ℕ) (before mid after : Option History) → ((history : History) → before ≡ Some history → at ≤ length history.now.octets) → n ≡ length octets → Becomes (written at octets) before mid → after ≡ mid → Turns (SpoilsAt at n) before after
+spoiled_by at n octets before mid after inside sized becomes same old is =
+    let held = becomes old is in
+    let spoils = subst (λ (c : Content). SpoilsAt at (length octets) old.now c) (sym held.2) (written_spoils at octets old.now (inside old is)) in
+    (held.0, same ∙ held.1, subst (λ (k : ℕ). SpoilsAt at k old.now held.0.now) (sym sized) spoils)
+
+-- a disk that doesn't tell leaves no images
+pub rests : (moments : ℕ × ℕ) (old new : Option History) (P : List ℕ → Type 0) → old ≡ None → is_some new ≡ is_some old → moments.0 ≤ moments.1 → LeavesOnly moments old new P
+rests moments old None P none telling later = record { later = later; each = λ image left. absurd left; before = λ moment image le left. absurd left }
+rests moments old (Some history) P none telling later = absurd (let no : true ≡ false = telling ∙ ap is_some none in cc no)

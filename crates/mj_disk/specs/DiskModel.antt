@@ -71,6 +71,11 @@ pub record LeavesOnly (moments : ℕ × ℕ) (old new : Option History) (P : Lis
   pub each : (image : List ℕ) → LeftSince new moments.0 image → P image
   pub before : (moment : ℕ) (image : List ℕ) → moment ≤ moments.0 → LeftSince new moment image → LeftSince old moment image ⊎ P image
 
--- the same, with P said of what was held at the start
+-- What each image since an earlier start has, each image has still.
+abbrev pub LeavesOn : (List ℕ → Type 0) → ℕ × ℕ → Option History → Option History → Type 0
+LeavesOn P moments old new =
+    (start : ℕ) (before : Option History) → LeavesOnly (start, moments.0) before old P → LeavesOnly (start, moments.1) before new P
+
+-- the same as `LeavesOnly`, with P said of what was held at the start
 abbrev pub CrashesAs : (Content → List ℕ → Type 0) → ℕ × ℕ → Option History → Option History → Type 0
 CrashesAs how moments old new = (history : History) → old ≡ Some history → LeavesOnly moments old new (how history.now)

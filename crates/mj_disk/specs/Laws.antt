@@ -1,5 +1,5 @@
 -- Proofs of the laws of disks: what a disk in memory reads is an image, and a disk that tells nothing has no history.
-use Rattle.std.proofs.Common.{◌≡◌, ℕ, ◌+◌, ◌-◌, ◌<◌, ◌≤◌, ◌⊎◌, List, [], ◌∷◌, ◌++◌, length, get_or, take, drop, reverse, Some, None, refl, ◌∙◌, ap, inl, inr, arith, length-append, length-drop, length-take, subst}
+use Rattle.std.proofs.Common.{◌≡◌, ℕ, ◌+◌, ◌-◌, ◌<◌, ◌≤◌, ◌⊎◌, Bool, true, false, List, [], ◌∷◌, ◌++◌, length, get_or, take, drop, reverse, Some, None, refl, ◌∙◌, ap, inl, inr, arith, length-append, length-drop, length-take, subst}
 use Rattle.std.proofs.lemmas.List.{get_or_append_left, get_or-append_right, get_or-take, get_or-drop}
 use Rattle.mj_disk.specs.Content.{Content, InNone, IsImage, settled, spliced, touched, written}
 use Rattle.mj_disk.specs.DiskModel.{History}
@@ -9,6 +9,13 @@ use Rattle.mj_disk.specs.declared.entry.Entry.TheVariants.{Wrote, Touched, Synce
 
 pub none_told : {A : Type 0} (history : History) → None ≡ Some history → A
 none_told history is = absurd (cc is)
+
+pub some_told : {A : Type 0} (history : History) → Some history ≡ None → A
+some_told history none = absurd (cc none)
+
+-- a disk that fails is settled no more
+pub settled_failed : {A : Type 0} (clean failed : Bool) → (failed ≡ true → clean ≡ false) → failed ≡ true → clean ≡ true → A
+settled_failed clean failed unsettled is settled = let not_clean = unsettled is in absurd (cc (not_clean, settled))
 
 -- a range more
 pub InNone-front : (k : ℕ) (ranges : List (ℕ × ℕ)) (range : ℕ × ℕ) → InNone k (ranges ++ range ∷ []) → InNone k ranges

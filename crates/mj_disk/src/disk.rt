@@ -1,4 +1,4 @@
-ghost use Rattle.std.specs.Prelude.{◌≡◌, ℕ, Bool, true, false, Some, None, Option, ◌+◌, ◌^◌, ◌<◌, ◌≤◌, length, take, drop, OnOk, OnErr, IfOk};
+ghost use Rattle.std.specs.Prelude.{◌≡◌, ℕ, Bool, true, false, Some, None, Option, is_some, ◌+◌, ◌^◌, ◌<◌, ◌≤◌, length, take, drop, OnOk, OnErr, IfOk};
 ghost use Rattle.mj_base.specs.Rising.{Rose};
 ghost use Rattle.mj_disk.specs.Content.{IsImage, settled, written};
 ghost use Rattle.mj_disk.specs.DiskModel.{History, latest, Now, Becomes, Turns, Changes, Touches, SpoilsAt, Syncs, IsSettled};
@@ -52,13 +52,14 @@ pub trait Disk {
         ensures count { faults self.old ≤ faults self.new }
         ensures cause { OnErr result (Rose (faults self.old) (faults self.new)) };
 
-    /// Writes over what is there, and past the end. A write that would make the disk too large fails.
+    /// Writes over what is there, and past the end. A write whose end would be at `SIZE_LIMIT` or behind it fails.
     fn write(&mut self, at: u64, octets: &[u8]) -> Result<(), DiskFailed>
         requires { Now (told self.old) (λ held. at ≤ length held.octets) }
         ensures written { OnOk result (Becomes (written at octets.now) (told self.old) (told self.new)) }
+        ensures within { OnOk result (at + length octets.now < 2 ^ 62) }
         ensures spoiled { OnErr result (Turns (SpoilsAt at (length octets.now)) (told self.old) (told self.new)) }
         ensures unsettled { OnOk result (¬ settled_now self.new) }
-        ensures silent { told self.old ≡ None → told self.new ≡ None }
+        ensures telling { is_some (told self.new) ≡ is_some (told self.old) }
         ensures crash { Changes (Touches at (length octets.now)) (time self.old, time self.new) (told self.old) (told self.new) }
         ensures later { time self.old ≤ time self.new }
         ensures failed { OnErr result (failed self.new ≡ true) }
@@ -66,10 +67,11 @@ pub trait Disk {
         ensures count { faults self.old ≤ faults self.new }
         ensures cause { OnErr result (Rose (faults self.old) (faults self.new)) };
 
-    /// After it, a crash leaves what a read gives.
+    /// After it, a crash leaves what a read gives. A sync that fails syncs nothing.
     fn sync(&mut self) -> Result<(), DiskFailed>
         ensures synced { OnOk result (Becomes (λ held. settled held.octets) (told self.old) (told self.new)) }
-        ensures silent { told self.old ≡ None → told self.new ≡ None }
+        ensures unsynced { OnErr result (told self.new ≡ told self.old) }
+        ensures telling { is_some (told self.new) ≡ is_some (told self.old) }
         ensures crash { Changes Syncs (time self.old, time self.new) (told self.old) (told self.new) }
         ensures settled { OnOk result (settled_now self.new) }
         ensures later { time self.old ≤ time self.new }
@@ -81,6 +83,9 @@ pub trait Disk {
     /// The moment. A real file tells 0.
     fn moment(&self) -> u64
         ensures { result ≡ time self.now };
+
+    /// A disk that doesn't tell what it holds isn't settled behind a failed call, up to the next good sync.
+    ghost unsettled_by_failure: { (disk : Self) → told disk ≡ None → failed disk ≡ true → ¬ settled_now disk };
 
     ghost settled_told: { (disk : Self) (history : History) → told disk ≡ Some history → settled_now disk → IsSettled history.now };
 

@@ -1,4 +1,4 @@
-ghost use Rattle.std.specs.Prelude.{◌≡◌, true, false, None, ◌+◌, ◌^◌, ◌<◌, ◌≤◌, length, IfOk};
+ghost use Rattle.std.specs.Prelude.{◌≡◌, true, false, None, ◌+◌, ◌^◌, ◌<◌, ◌≤◌, length, IfOk, OnOk};
 ghost use Rattle.mj_base.specs.Rising.{Rose};
 
 use super::{Disk, DiskFailed, SIZE_LIMIT};
@@ -17,10 +17,22 @@ pub struct FileDisk<R: Files + Drop> {
     settled: bool,
     failed: bool,
     faults: u64,
+    ghost unsettled: { failed ≡ true → settled ≡ false },
 }
 
-impl<R: Files + Drop> FileDisk<R> {
-    pub fn new(rt: R, path: String) -> FileDisk<R> {
+impl<R: Files + Drop> FileDisk<R>
+where
+    R::File: FileExt,
+{
+    /// A disk over the file at this path, which isn't opened yet.
+    pub fn new(rt: R, path: String) -> FileDisk<R>
+        ensures path { result.path ≡ path }
+        ensures closed { result.file ≡ None }
+        ensures told { ⟦<FileDisk<R> as Disk>⟧.told result ≡ None }
+        ensures unsettled { ¬ ⟦<FileDisk<R> as Disk>⟧.settled_now result }
+        ensures unfailed { ⟦<FileDisk<R> as Disk>⟧.failed result ≡ false }
+        ensures faults { ⟦<FileDisk<R> as Disk>⟧.faults result ≡ 0 }
+    {
         FileDisk {
             rt,
             path,
@@ -37,7 +49,7 @@ where
     R::File: FileExt,
 {
     ghost use Rattle.std.specs.Prelude.{◌≡◌, true, None};
-    ghost use Rattle.mj_disk.specs.Laws.{none_told};
+    ghost use Rattle.mj_disk.specs.Laws.{none_told, settled_failed};
 
     ghost told = { λ _. None };
 
@@ -48,6 +60,8 @@ where
     ghost failed = { λ d. d.failed };
 
     ghost faults = { λ d. d.faults };
+
+    ghost unsettled_by_failure = { λ d none is clean. settled_failed d.settled d.failed d.unsettled is clean };
 
     ghost settled_told = { λ d history is settled. none_told history is };
 
@@ -97,6 +111,7 @@ fn fail(faults: &mut u64, failed: &mut bool, settled: &mut bool) -> DiskFailed
     ensures rose { Rose faults.old faults.new }
     ensures later { faults.old ≤ faults.new }
     ensures failed { failed.new ≡ true }
+    ensures unsettled { settled.new ≡ false }
 {
     *faults = faults.saturating_add(1);
     *failed = true;
@@ -160,6 +175,7 @@ fn write_at<R: Files>(
 ) -> io::Result<()>
 where
     R::File: FileExt,
+    ensures { OnOk result (at + length octets.now < 2 ^ 62) }
 {
     if at >= SIZE_LIMIT || octets.len() as u64 >= SIZE_LIMIT - at {
         return Err(ErrorKind::InvalidInput.into());

@@ -12,6 +12,3 @@ pub use disk::{Disk, DiskFailed, SIZE_LIMIT};
 pub use durable::write_synced;
 pub use file::FileDisk;
 pub use memory::MemoryDisk;
-
-#[cfg(test)]
-mod tests;

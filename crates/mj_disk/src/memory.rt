@@ -62,6 +62,10 @@ impl MemoryDisk {
     ) -> Result<MemoryDisk, NoMemory>
         requires { length octets ≤ room }
         ensures told { IfOk result (λ disk. ⟦<MemoryDisk as Disk>⟧.told disk ≡ Some (begun octets)) }
+        ensures time { IfOk result (λ disk. ⟦<MemoryDisk as Disk>⟧.time disk ≡ 0) }
+        ensures room { IfOk result (λ disk. disk.room ≡ room) }
+        ensures failing { IfOk result (λ disk. disk.failing ≡ failing) }
+        ensures stop { IfOk result (λ disk. disk.stop ≡ stop) }
         ensures settled { IfOk result ⟦<MemoryDisk as Disk>⟧.settled_now }
         ensures failed { IfOk result (λ disk. ⟦<MemoryDisk as Disk>⟧.failed disk ≡ false) }
         ensures faults { IfOk result (λ disk. ⟦<MemoryDisk as Disk>⟧.faults disk ≡ 0) }
@@ -203,7 +207,7 @@ impl Disk for MemoryDisk {
     ghost use Rattle.std.specs.Prelude.{◌≡◌, Some, false};
     ghost use Rattle.mj_disk.specs.Recorded.{recorded};
     ghost use Rattle.mj_disk.specs.DiskModel.{latest};
-    ghost use Rattle.mj_disk.specs.Laws.{recorded_reads, recorded_settled, recorded_in_time};
+    ghost use Rattle.mj_disk.specs.Laws.{some_told, recorded_reads, recorded_settled, recorded_in_time};
 
     ghost told = { λ d. Some (recorded d) };
 
@@ -214,6 +218,8 @@ impl Disk for MemoryDisk {
     ghost failed = { λ d. d.failed };
 
     ghost faults = { λ d. d.faults };
+
+    ghost unsettled_by_failure = { λ d none. some_told (recorded d) none };
 
     ghost settled_told = { λ d history is clean. recorded_settled (recorded d) d.octets.items history is d.reads_now (d.clean clean) };
 

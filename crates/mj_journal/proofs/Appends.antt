@@ -1,13 +1,13 @@
 -- What the two writes of an append do, and what a crash in them leaves.
-use Rattle.std.proofs.Common.{◌≡◌, ◌≢◌, ℕ, ◌+◌, ◌≤◌, List, [], ◌∷◌, ◌++◌, length, take, drop, Option, Some, sym, ◌∙◌, ap, subst, inl, arith, length-append, length-take}
+use Rattle.std.proofs.Common.{◌≡◌, ◌≢◌, ℕ, ◌+◌, ◌≤◌, is_some, List, [], ◌∷◌, ◌++◌, length, take, drop, Option, Some, sym, ◌∙◌, ap, subst, inl, inr, arith, length-append, length-take}
 use Rattle.std.proofs.lemmas.List.{append-nil, drop_all}
-use Rattle.mj_disk.specs.Content.{Content, IsImage, settled, spliced, touched}
-use Rattle.mj_disk.specs.DiskModel.{History, Becomes, CrashesAs, latest}
-use Rattle.mj_disk.proofs.Images.{settled_is, image_behind, image_at, spliced_behind, spliced_at}
-use Rattle.mj_disk.proofs.Moments.{leaves_weaker, then_leaves, started}
-use Rattle.mj_journal.specs.FileText.{IsPayload, Block, spelled, Stands, end_of, text_blocks, text}
-use Rattle.mj_journal.specs.Appending.{recorded, Appends, AppendsText, StandsForEither, CrashesOldOrNew}
-use Rattle.mj_journal.proofs.Files.{length-front, shut, opened, either, text_blocks-holds, text_blocks-push, grown}
+use Rattle.mj_disk.specs.Content.{Content, IsImage, settled, spliced, touched, Spoils}
+use Rattle.mj_disk.specs.DiskModel.{History, Now, Becomes, Turns, SpoilsAt, CrashesAs, latest}
+use Rattle.mj_disk.proofs.Images.{settled_is, image_behind, image_at, spliced_behind, spliced_at, spoiled_behind, spoiled_at}
+use Rattle.mj_disk.proofs.Moments.{leaves_weaker, then_leaves, started, told_before}
+use Rattle.mj_journal.specs.FileText.{IsPayload, length_octets, Block, spelled, Stands, end_of, text_blocks, text}
+use Rattle.mj_journal.specs.Appending.{recorded, EndsAt, ReachesTo, Appends, AppendsText, StandsForEither, LeavesEither, CrashesOldOrNew}
+use Rattle.mj_journal.proofs.Files.{length-front, length-length_octets, end_of-push, shut, opened, either, text_blocks-holds, text_blocks-push, grown}
 
 -- what stands behind the gate after the first write
 abbrev pub left_behind : List ℕ → List ℕ → List ℕ
@@ -48,6 +48,18 @@ module _ (head : List ℕ) (payloads : List (List ℕ)) (octets payload : List �
       let moved = subst (λ (l : List ℕ). IsImage (touched end 1 (settled l)) image) first_is left in
       let is = image_at (head ++ spelled old.blocks) 0 (recorded payload ++ left_behind (recorded payload) old.rest) end image at_gate moved in
       either head payloads octets image payload (left_behind (recorded payload) old.rest) is.0 old is_payload is.1
+
+  -- what a failed first write leaves, and a failed second
+  pub first_left : (n : ℕ) (new : List ℕ) → Spoils (end + 1) n octets new → StandsForEither head payloads payload new
+  first_left n new spoils =
+      let moved = subst (λ (l : List ℕ). Spoils (end + 1) n l new) old.spells spoils in
+      inl (shut head payloads octets new (drop (end + 1) new) old (spoiled_behind (head ++ spelled old.blocks) 0 old.rest (end + 1) n new at_record moved))
+
+  pub second_left : (new : List ℕ) → IsPayload payload → Spoils end 1 (spliced (end + 1) (recorded payload) octets) new → StandsForEither head payloads payload new
+  second_left new is_payload spoils =
+      let moved = subst (λ (l : List ℕ). Spoils end 1 l new) first_is spoils in
+      let is = spoiled_at (head ++ spelled old.blocks) 0 (recorded payload ++ left_behind (recorded payload) old.rest) end new at_gate moved in
+      either head payloads octets new payload (left_behind (recorded payload) old.rest) is.0 old is_payload is.1
 
   -- the gate is inside the file, also after the first write
   pub gate_inside : end + 1 ≤ length octets
@@ -118,3 +130,36 @@ appends_text payload octets end before after spelled_so becomes old head payload
           ∙ ap (λ (l : List ℕ). spliced end (1 ∷ []) (spliced (end + 1) (recorded payload) l)) stands
           ∙ text_after head payloads payload end long place,
     )
+
+pub length-recorded : (payload : List ℕ) → length (recorded payload) ≡ length payload + 5
+length-recorded payload =
+    omega (arith, length-append (length_octets (length payload) ++ payload) (0 ∷ []), length-append (length_octets (length payload)) payload, length-length_octets (length payload))
+
+-- the file reaches up to its closed gate
+pub reaches : (end : ℕ) (held : Content) → ReachesTo end held → end ≤ length held.octets
+reaches end held (inl ends) =
+    let inside = gate_inside ends.0 ends.1 held.octets [] end ends.2 ends.3 ends.4 in
+    omega arith
+reaches end held (inr inside) = inside
+
+-- the file ends at the new gate
+pub appended_ends : (payload : List ℕ) (end next : ℕ) (before after : Option History) → is_some after ≡ is_some before → Now before (EndsAt end) → Appends payload end before after → next ≡ end + (length payload + 5) → Now after (EndsAt next)
+appended_ends payload end next before after telling file appends_it next_is history is =
+    let old = told_before before after history telling is in
+    let ends = file old.0 old.1 in
+    let new = appends_it old.0 ends.0 ends.1 old.1 ends.2 ends.3 ends.4 in
+    let same : new.0 ≡ history = let e = sym new.1 ∙ is in cc in
+    (ends.0, ends.1 ++ payload ∷ [], ends.2, subst (λ (h : History). Stands ends.0 (ends.1 ++ payload ∷ []) h.now.octets) same new.2, next_is ∙ end_of-push ends.1 payload end ends.4)
+
+-- what stands after a failed append
+pub first_leaves_either : (payload octets : List ℕ) (end n : ℕ) (before after : Option History) → Turns (SpoilsAt (end + 1) n) before after → LeavesEither payload end before after
+first_leaves_either payload octets end n before after spoils old head payloads is long stands place =
+    let new = spoils old is in
+    (new.0, new.1, first_left head payloads old.now.octets payload end long stands place n new.0.now.octets new.2)
+
+pub second_leaves_either : (payload octets : List ℕ) (end : ℕ) (before mid after : Option History) → octets ≡ recorded payload → IsPayload payload → Becomes (λ held. settled (spliced (end + 1) octets held.octets)) before mid → Turns (SpoilsAt end 1) mid after → LeavesEither payload end before after
+second_leaves_either payload octets end before mid after spelled_so is_payload becomes spoils old head payloads is long stands place =
+    let held = becomes old is in
+    let held_is : held.0.now ≡ settled (spliced (end + 1) (recorded payload) old.now.octets) = held.2 ∙ ap (λ (l : List ℕ). settled (spliced (end + 1) l old.now.octets)) spelled_so in
+    let new = spoils held.0 held.1 in
+    (new.0, new.1, second_left head payloads old.now.octets payload end long stands place new.0.now.octets is_payload (subst (λ (c : Content). Spoils end 1 c.octets new.0.now.octets) held_is new.2))

@@ -9,6 +9,7 @@ use Rattle.mj_journal.specs.Opening.{ReadTo, IsBegun, IsImageOrOpensAlike}
 use Rattle.mj_journal.specs.Appending.{CrashesOldOrNew}
 use Rattle.mj_journal.specs.HandedOut.{HandsFrom, HandsOut, IsBaseOf, OpensAsEither, ReadsSince}
 use Rattle.mj_journal.proofs.Files.{length-header, length-base_octets}
+use Rattle.mj_journal.proofs.Beginning.{short_is_nil}
 use Rattle.mj_journal.proofs.Unique.{stands_once, stands_short, opens_once}
 
 -- what was read so far, and what is handed out from there on
@@ -82,13 +83,14 @@ hands_out_appended payload end moments before told crashes history left after he
     (kept_base asked base of (payloads ++ payload ∷ []) left.now.octets whole found.1, inr found.0))
     (leaves.each left.now.octets since)
 
--- an image that a crash inside a beginning left opens as what was read opens, or is one of before
+-- an image that a crash inside a beginning left is one of before, or opens as no payloads, as what was read does
 pub alike_opens : (first second : List (List ℕ)) (held : Content) (image : List ℕ) → OpensAsEither first second held → IsImage held held.octets → IsImageOrOpensAlike held image → OpensAs first image ⊎ OpensAs second image
 alike_opens first second held image each reads (inl before) = each image before
 alike_opens first second held image each reads (inr alike) =
+    let none = alike.1.1 in
     ⊎_elim
-    (λ (one : OpensAs first held.octets). inl (alike first one))
-    (λ (two : OpensAs second held.octets). inr (alike second two))
+    (λ (one : OpensAs first held.octets). inl (subst (λ (ps : List (List ℕ)). OpensAs ps image) (sym (short_is_nil first held.octets alike.0.0 one)) none))
+    (λ (two : OpensAs second held.octets). inr (subst (λ (ps : List (List ℕ)). OpensAs ps image) (sym (short_is_nil second held.octets alike.0.0 two)) none))
     (each held.octets reads)
 
 -- what a disk reads is an image since any moment

@@ -1,8 +1,11 @@
 pub mod Appends
 pub mod Beginning
+pub mod Exits
 pub mod Files
 pub mod Finishing
+pub mod Fronts
 pub mod Handing
 pub mod Headers
 pub mod Reading
+pub mod Standing
 pub mod Unique

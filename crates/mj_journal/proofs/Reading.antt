@@ -1,8 +1,10 @@
 -- Reading on from a gate: one payload more, the end, or a record that isn't whole.
 use Rattle.std.proofs.Common.{◌≡◌, ◌≢◌, ℕ, ◌+◌, ◌-◌, ◌<◌, ◌≤◌, ◌^◌, List, [], ◌∷◌, ◌++◌, length, take, drop, get_or, sym, ◌∙◌, ap, arith, append_assoc, length-append, length-drop, take-append-drop}
 use Rattle.std.proofs.lemmas.List.{take_at, drop_at, drop_more, drop-drop, get_or_at, map_push, length-take-le}
+use Rattle.mj_disk.specs.Content.{Content}
 use Rattle.mj_journal.specs.FileText.{length_octets, Block, spelled, payload_of, Stands}
-use Rattle.mj_journal.specs.Opening.{ReadTo, IsWhole, IsLength}
+use Rattle.mj_journal.specs.Opening.{ReadTo, ReadsAll, IsWhole, IsLength}
+use Rattle.mj_journal.specs.Appending.{EndsAt}
 use Rattle.mj_journal.proofs.Files.{length-header, length-front, length-length_octets, end_of-push, AllOpen-push, grown}
 use Rattle.mj_journal.proofs.Headers.{length_octets_same}
 
@@ -13,7 +15,7 @@ module _ (base gate : ℕ) (head : List ℕ) (payloads : List (List ℕ)) (octet
   pub mark_is : get_or octets gate 0 ≡ r.mark
   mark_is = ap (λ (l : List ℕ). get_or l gate 0) r.spells ∙ get_or_at (head ++ spelled r.blocks) r.mark r.rest 0 gate (sym at_gate)
 
-  behind_is : drop (gate + 1) octets ≡ r.rest
+  pub behind_is : drop (gate + 1) octets ≡ r.rest
   behind_is =
       let seam : length ((head ++ spelled r.blocks) ++ r.mark ∷ []) ≡ gate + 1 = omega (arith, at_gate, length-append (head ++ spelled r.blocks) (r.mark ∷ [])) in
       ap (λ (l : List ℕ). drop (gate + 1) l) (r.spells ∙ sym (append_assoc (head ++ spelled r.blocks) (r.mark ∷ []) r.rest))
@@ -75,6 +77,10 @@ module _ (base gate : ℕ) (head : List ℕ) (payloads : List (List ℕ)) (octet
             ∙ sym (grown head r.blocks block (get_or r.rest (4 + len) 0) (drop (4 + len + 1) r.rest));
         place = omega (arith, next_is, end_of-push payloads payload gate r.place);
       }
+
+-- the closed gate that was read up to
+pub ends_at : (base gate : ℕ) (head : List ℕ) (payloads : List (List ℕ)) (held : Content) → ReadTo base gate head payloads held.octets → ReadsAll base gate held → EndsAt gate held
+ends_at base gate head payloads held r all = (head, payloads, length-header base head r.is_header, all.1 head payloads r, r.place)
 
 -- ---- a record that isn't whole
 

@@ -5,37 +5,9 @@ use Rattle.std.specs.List.{AllByRecursion}
 use Rattle.mj_journal.specs.FileText.{name, base_octets, IsHeader, IsPayload, length_octets, Block, spelled, AllOpen, payload_of, Stands, StandsFor, IsEmptyStore, Opens, sizes, text_blocks, text}
 use Rattle.mj_journal.specs.Opening.{IsNoHeader}
 use Rattle.mj_journal.specs.Making.{making_head}
-use Rattle.mj_journal.proofs.Files.{length-header, length-length_octets, length-spelled, text_blocks-holds}
-use Rattle.mj_journal.proofs.Headers.{base_octets_same, length_octets_same, no_name}
-
--- a length, so many bytes, and the rest
-same_record : (p q x y : List ℕ) → IsPayload p → IsPayload q → length_octets (length p) ++ (p ++ x) ≡ length_octets (length q) ++ (q ++ y) → (p ≡ q) × (x ≡ y)
-same_record p q x y is_p is_q same =
-    let p_high : length p ≤ 2097152 = is_p.1 in
-    let q_high : length q ≤ 2097152 = is_q.1 in
-    let four = length-length_octets (length p) in
-    let others = length-length_octets (length q) in
-    let sized : length_octets (length p) ≡ length_octets (length q) = sym (take_at (length_octets (length p)) (p ++ x) 4 four) ∙ ap (λ (l : List ℕ). take 4 l) same ∙ take_at (length_octets (length q)) (q ++ y) 4 others in
-    let long : length p ≡ length q = length_octets_same (length p) (length q) (omega arith) (omega arith) sized in
-    let rest : p ++ x ≡ q ++ y = sym (drop_at (length_octets (length p)) (p ++ x) 4 four) ∙ ap (λ (l : List ℕ). drop 4 l) same ∙ drop_at (length_octets (length q)) (q ++ y) 4 others in (
-      sym (take_at p x (length p) refl) ∙ ap (λ (l : List ℕ). take (length p) l) rest ∙ take_at q y (length p) (sym long),
-      sym (drop_at p x (length p) refl) ∙ ap (λ (l : List ℕ). drop (length p) l) rest ∙ drop_at q y (length p) (sym long),
-    )
-
-regroup : (block : Block) (blocks : List Block) (rest : List ℕ) → drop 1 (spelled (block ∷ blocks) ++ 0 ∷ rest) ≡ length_octets (length block.payload) ++ (block.payload ++ (spelled blocks ++ 0 ∷ rest))
-regroup block blocks rest =
-    append_assoc (length_octets (length block.payload) ++ block.payload) (spelled blocks) (0 ∷ rest)
-    ∙ append_assoc (length_octets (length block.payload)) block.payload (spelled blocks ++ 0 ∷ rest)
-
-same_blocks : (blocks others : List Block) (rest more : List ℕ) → AllOpen blocks → AllOpen others → spelled blocks ++ 0 ∷ rest ≡ spelled others ++ 0 ∷ more → map payload_of blocks ≡ map payload_of others
-same_blocks [] [] rest more all each same = refl
-same_blocks [] (other ∷ others) rest more all each same = absurd (each.0 (sym (ap (λ (l : List ℕ). get_or l 0 0) same)))
-same_blocks (block ∷ blocks) [] rest more all each same = absurd (all.0 (ap (λ (l : List ℕ). get_or l 0 0) same))
-same_blocks (block ∷ blocks) (other ∷ others) rest more all each same =
-    let behind = sym (regroup block blocks rest) ∙ ap (λ (l : List ℕ). drop 1 l) same ∙ regroup other others more in
-    let one = same_record block.payload other.payload (spelled blocks ++ 0 ∷ rest) (spelled others ++ 0 ∷ more) all.1 each.1 behind in
-    let tail = same_blocks blocks others rest more all.2 each.2 one.1 in
-    ap (λ (p : List ℕ). p ∷ map payload_of blocks) one.0 ∙ ap (λ (ps : List (List ℕ)). other.payload ∷ ps) tail
+use Rattle.mj_journal.proofs.Files.{length-header, length-spelled, text_blocks-holds}
+use Rattle.mj_journal.proofs.Fronts.{same_blocks}
+use Rattle.mj_journal.proofs.Headers.{base_octets_same, no_name}
 
 pub stands_once : (head other : List ℕ) (payloads others : List (List ℕ)) (octets : List ℕ) → length head ≡ 16 → length other ≡ 16 → Stands head payloads octets → Stands other others octets → (head ≡ other) × (payloads ≡ others)
 stands_once head other payloads others octets long longer s t =
@@ -47,7 +19,7 @@ stands_once head other payloads others octets long longer s t =
       sym s.holds ∙ same_blocks s.blocks t.blocks s.rest t.rest s.all_open t.all_open behind ∙ t.holds,
     )
 
-base_once : (base other : ℕ) (head : List ℕ) → IsHeader base head → IsHeader other head → base ≡ other
+pub base_once : (base other : ℕ) (head : List ℕ) → IsHeader base head → IsHeader other head → base ≡ other
 base_once base other head (inl one) (inl two) = one.0 ∙ sym two.0
 base_once base other head (inl one) (inr two) = let e : 49 ≡ 50 = ap (λ (l : List ℕ). get_or l 7 0) (sym one.1 ∙ two.2) in absurd (omega (arith, e))
 base_once base other head (inr one) (inl two) = let e : 50 ≡ 49 = ap (λ (l : List ℕ). get_or l 7 0) (sym one.2 ∙ two.1) in absurd (omega (arith, e))
@@ -91,6 +63,10 @@ opens_once base other payloads others octets (inr made) (inr anew) = (made.1 ∙
 text_open : (payloads : List (List ℕ)) → AllByRecursion IsPayload payloads → AllOpen (text_blocks payloads)
 text_open [] all = tt
 text_open (payload ∷ payloads) all = (λ (e : 1 ≡ 0). omega (arith, e), all.0, text_open payloads all.1)
+
+pub all-push : (payloads : List (List ℕ)) (payload : List ℕ) → AllByRecursion IsPayload payloads → IsPayload payload → AllByRecursion IsPayload (payloads ++ payload ∷ [])
+all-push [] payload all is_payload = (is_payload, tt)
+all-push (first ∷ payloads) payload all is_payload = (all.0, all-push payloads payload all.1 is_payload)
 
 pub text_stands : (head : List ℕ) (payloads : List (List ℕ)) → AllByRecursion IsPayload payloads → Stands head payloads (text head payloads)
 text_stands head payloads all =

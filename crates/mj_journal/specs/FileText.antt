@@ -72,6 +72,10 @@ Opens base payloads octets = StandsFor base payloads octets ⊎ (IsShort octets 
 abbrev pub OpensAs : List (List ℕ) → List ℕ → Type 0
 OpensAs payloads octets = (base : ℕ) × Opens base payloads octets
 
+-- so short that it can have no payloads
+abbrev pub IsLittle : List ℕ → Type 0
+IsLittle octets = (length octets ≤ 17) × OpensAs [] octets
+
 -- the place of the closed gate behind these payloads
 abbrev pub sizes : List (List ℕ) → ℕ
 sizes [] = 0

@@ -4,7 +4,7 @@ use Rattle.mj_disk.specs.Content.{Content, IsImage}
 use Rattle.mj_disk.specs.DiskModel.{History, IsSettled}
 use Rattle.mj_journal.specs.declared.fault.OpenFault.{OpenFault}
 use Rattle.mj_journal.specs.declared.fault.OpenFault.TheVariants.{NotAStore, Version, Damaged, DiskFault, NoMemory}
-use Rattle.mj_journal.specs.FileText.{name, header_2, IsHeader, IsPayload, length_octets, Block, spelled, AllOpen, payload_of, IsEmptyStore, IsShort, OpensAs, Stands, end_of}
+use Rattle.mj_journal.specs.FileText.{name, header_2, IsHeader, IsPayload, length_octets, Block, spelled, AllOpen, payload_of, IsEmptyStore, IsShort, IsLittle, Stands, end_of}
 
 -- a header of a version that nobody knows here
 abbrev pub IsVersion : ℕ → List ℕ → Type 0
@@ -44,6 +44,14 @@ IsNextFault (Damaged at) = Unit {0}
 IsNextFault NoMemory = Unit {0}
 IsNextFault DiskFault = Unit {0}
 
+-- P, but where a call of the disk failed
+abbrev pub SaveAtDiskFault : Type 0 → OpenFault → Type 0
+SaveAtDiskFault P NotAStore = P
+SaveAtDiskFault P (Version version) = P
+SaveAtDiskFault P (Damaged at) = P
+SaveAtDiskFault P NoMemory = P
+SaveAtDiskFault P DiskFault = Unit {0}
+
 abbrev pub IsNotBegun : OpenFault → Content → Type 0
 IsNotBegun fault held = IsRefused fault held.octets
 
@@ -57,6 +65,18 @@ pub record ReadTo (base gate : ℕ) (head : List ℕ) (payloads : List (List ℕ
   pub holds : map payload_of blocks ≡ payloads
   pub spells : octets ≡ head ++ spelled blocks ++ mark ∷ rest
   pub place : gate ≡ end_of payloads
+
+-- some payloads were read, up to this gate
+abbrev pub IsReadTo : ℕ → ℕ → Content → Type 0
+IsReadTo base gate held = (head : List ℕ) × (payloads : List (List ℕ)) × ReadTo base gate head payloads held.octets
+
+-- the bytes as they were
+abbrev pub IsUntouched : Content → Content → Type 0
+IsUntouched old new = new.octets ≡ old.octets
+
+-- the bytes as they were, but in the place of short ones so few that they open as no payloads
+abbrev pub KeepsFile : Content → Content → Type 0
+KeepsFile old new = (new.octets ≡ old.octets) ⊎ (IsShort old.octets × IsLittle new.octets)
 
 -- the file as it was, or a new one in the place of a short one
 abbrev pub IsKeptOrMade : ℕ → ℕ → List ℕ → List ℕ → Type 0
@@ -74,10 +94,9 @@ abbrev pub Begins : ℕ → ℕ → ℕ → Option History → Option History �
 Begins asked base size before after =
     (old : History) → before ≡ Some old → (new : History) × (after ≡ Some new) × IsBegun asked base size old.now new.now
 
--- an image of before, or one that opens as what was read opens
+-- an image of before, or, of a short file, one that is short too and opens as no payloads
 abbrev pub IsImageOrOpensAlike : Content → List ℕ → Type 0
-IsImageOrOpensAlike held image =
-    IsImage held image ⊎ ((payloads : List (List ℕ)) → OpensAs payloads held.octets → OpensAs payloads image)
+IsImageOrOpensAlike held image = IsImage held image ⊎ (IsShort held.octets × IsLittle image)
 
 -- the record behind the gate is whole: its length, that many bytes, and a gate
 pub record IsWhole (gate : ℕ) (octets : List ℕ) : Type 0 where

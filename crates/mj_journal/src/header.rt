@@ -1,4 +1,4 @@
-ghost use Rattle.std.specs.Prelude.{◌≡◌, ◌<◌, ◌≤◌, ◌^◌, ◌+◌, ◌++◌, ◌∷◌, [], IfOk, IfErr, IsTrue, length, MatchBool, OnOk};
+ghost use Rattle.std.specs.Prelude.{◌≡◌, ◌<◌, ◌≤◌, ◌^◌, ◌+◌, ◌++◌, ◌∷◌, [], IfOk, IfErr, IfSome, IsTrue, length, MatchBool, OnOk};
 ghost use Rattle.mj_journal.specs.FileText.{name, header_2, base_octets, IsHeader};
 ghost use Rattle.mj_journal.specs.Opening.{IsBadHeader, IsEmptyWith};
 
@@ -23,6 +23,7 @@ pub(crate) fn new_file(base: u64) -> [u8; 17]
 /// The base of a file that has this header.
 pub(crate) fn read_header(front: &[u8; 16]) -> Result<u64, OpenFault>
     ensures header { IfOk result (λ base. IsHeader base front.now) }
+    ensures based { IfOk result (λ base. (1 ≤ base) × (base ≤ 2 ^ 61)) }
     ensures refused { IfErr result (λ fault. IsBadHeader fault front.now) }
 {
     if front[..7] != [b'M', b'J', b'T', b'S', b'T', b'O', b'R'] {
@@ -37,6 +38,7 @@ pub(crate) fn read_header(front: &[u8; 16]) -> Result<u64, OpenFault>
 /// What follows the name: a version's digit, and eight bytes.
 fn read_version(version: u8, tail: &[u8; 8]) -> Result<u64, OpenFault>
     ensures header { IfOk result (λ base. IsHeader base (name ++ version ∷ tail.now)) }
+    ensures based { IfOk result (λ base. (1 ≤ base) × (base ≤ 2 ^ 61)) }
     ensures refused { IfErr result (λ fault. IsBadHeader fault (name ++ version ∷ tail.now)) }
 {
     if version == b'1' {
@@ -53,6 +55,7 @@ fn read_version(version: u8, tail: &[u8; 8]) -> Result<u64, OpenFault>
 
 fn read_format_1(tail: &[u8; 8]) -> Result<u64, OpenFault>
     ensures header { IfOk result (λ base. IsHeader base (name ++ 49 ∷ tail.now)) }
+    ensures based { IfOk result (λ base. (1 ≤ base) × (base ≤ 2 ^ 61)) }
     ensures refused { IfErr result (λ fault. IsBadHeader fault (name ++ 49 ∷ tail.now)) }
 {
     if *tail != [0, 0, 0, 0, 0, 0, 0, 0] {
@@ -63,6 +66,7 @@ fn read_format_1(tail: &[u8; 8]) -> Result<u64, OpenFault>
 
 fn read_format_2(tail: &[u8; 8]) -> Result<u64, OpenFault>
     ensures header { IfOk result (λ base. IsHeader base (name ++ 50 ∷ tail.now)) }
+    ensures based { IfOk result (λ base. (1 ≤ base) × (base ≤ 2 ^ 61)) }
     ensures refused { IfErr result (λ fault. IsBadHeader fault (name ++ 50 ∷ tail.now)) }
 {
     let base = base_of(tail);
@@ -89,7 +93,8 @@ fn is_digit(octet: u8) -> bool
 
 /// The base of a file that is exactly a header and a closed gate.
 pub(crate) fn read_empty(front: &[u8]) -> Option<u64>
-    ensures { IsEmptyWith result front.now }
+    ensures found { IsEmptyWith result front.now }
+    ensures based { IfSome result (λ base. (1 ≤ base) × (base ≤ 2 ^ 61)) }
 {
     let Some((head, rest)) = front.split_first_chunk::<16>() else {
         return None;

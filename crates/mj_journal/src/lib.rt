@@ -11,9 +11,10 @@ mod opening;
 
 pub use fault::{AppendFault, OpenFault};
 pub use journal::Journal;
-pub use laws::{an_opening_gives_the_list, files_stand_once, no_store_in_the_making, texts_stand};
+pub use laws::{
+    an_opening_gives_the_list, files_stand_once, headers_say_their_base, no_store_in_the_making,
+    payloads_stand_at_their_places, short_files_have_no_payloads, texts_stand,
+    whole_files_are_read,
+};
 pub use making::{MakeFault, Making};
 pub use opening::Opening;
-
-#[cfg(test)]
-mod tests;

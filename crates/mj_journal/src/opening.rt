@@ -1,9 +1,10 @@
-ghost use Rattle.std.specs.Prelude.{◌≡◌, true, false, None, Some, ◌+◌, ◌^◌, ◌<◌, ◌≤◌, ◌++◌, ◌∷◌, [], ℕ, length, take, drop, IfOk, IfErr, OnOk, OnErr, IsErrOf, MatchOption, IfSome, MatchBool, get_or, vec_len};
+ghost use Rattle.std.specs.Prelude.{◌≡◌, true, false, None, Some, is_some, ◌+◌, ◌^◌, ◌<◌, ◌≤◌, ◌++◌, ◌∷◌, [], ℕ, length, take, drop, IfOk, IfErr, OnOk, OnErr, IsErrOf, MatchOption, IfSome, MatchBool, get_or, vec_len};
 ghost use Rattle.mj_base.specs.Rising.{Rose};
 ghost use Rattle.mj_disk.specs.Content.{IsImage, settled, touched};
-ghost use Rattle.mj_disk.specs.DiskModel.{Now, Becomes, CrashesAs};
+ghost use Rattle.mj_disk.specs.DiskModel.{Now, Becomes, Turns, SpoilsAt, CrashesAs};
 ghost use Rattle.mj_journal.specs.FileText.{IsHeader, IsPayload, length_octets, header_2};
-ghost use Rattle.mj_journal.specs.Opening.{IsNotBegun, IsBeginFault, IsNextFault, IsNotNext, ReadsOne, ReadsAll, Begins, IsImageOrOpensAlike, MayBeWhole, IsEmptyWith};
+ghost use Rattle.mj_journal.specs.Opening.{IsNotBegun, IsBeginFault, IsNextFault, IsNotNext, SaveAtDiskFault, IsReadTo, ReadsOne, ReadsAll, Begins, IsUntouched, KeepsFile, IsImageOrOpensAlike, MayBeWhole, IsEmptyWith};
+ghost use Rattle.mj_journal.specs.Appending.{EndsAt};
 
 use super::header::{new_file, read_empty, read_header};
 use super::{Journal, OpenFault};
@@ -36,20 +37,29 @@ impl Opening {
         requires high { base ≤ 2 ^ 61 }
 
         ensures begun { IfOk result (λ opening. Begins base opening.base opening.size (D.told disk.old) (D.told disk.new)) }
+        ensures based { IfOk result (λ opening. (1 ≤ opening.base) × (opening.base ≤ 2 ^ 61)) }
         ensures first { IfOk result (λ opening. (opening.next ≡ 16) × (opening.done ≡ false)) }
-        ensures size { IfOk result (λ opening. Now (D.told disk.new) (λ held. opening.size ≡ length held.octets)) }
         ensures settled { OnOk result (D.settled_now disk.new) }
         ensures unfailed { OnOk result (D.failed disk.new ≡ false) }
+
+        // The file is as `next` asks.
+        ensures size { IfOk result (λ opening. Now (D.told disk.new) (λ held. opening.size ≡ length held.octets)) }
+        ensures ready { IfOk result (λ opening. Now (D.told disk.new) (IsReadTo opening.base opening.next)) }
+
+        // Whatever the answer is, bytes that aren't short are as they were.
+        ensures kept { Turns KeepsFile (D.told disk.old) (D.told disk.new) }
 
         ensures refused { IfErr result (λ fault. Now (D.told disk.old) (IsNotBegun fault)) }
         ensures kind { IfErr result IsBeginFault }
         ensures cause { IsErrOf result OpenFault.DiskFault → Rose (D.faults disk.old) (D.faults disk.new) }
         ensures failed { IsErrOf result OpenFault.DiskFault → D.failed disk.new ≡ true }
+        ensures still { IfErr result (SaveAtDiskFault (D.settled_now disk.new × (D.failed disk.new ≡ false))) }
 
-        // A crash at any moment of the call leaves an image of before, or one that opens as what was read opens.
+        // A crash at any moment of the call leaves an image of before, or, of a short file, one that is short too
+        // and opens as no payloads.
         ensures crash { CrashesAs IsImageOrOpensAlike (D.time disk.old, D.time disk.new) (D.told disk.old) (D.told disk.new) }
 
-        ensures silent { D.told disk.old ≡ None → D.told disk.new ≡ None }
+        ensures telling { is_some (D.told disk.new) ≡ is_some (D.told disk.old) }
         ensures later { D.time disk.old ≤ D.time disk.new }
         ensures count { D.faults disk.old ≤ D.faults disk.new }
     {
@@ -74,15 +84,16 @@ impl Opening {
         })
     }
 
-    /// Replaces `payload` by the next payload, or answers false at the closed gate. After a fault the opening is
-    /// given up.
+    /// Replaces `payload` by the next payload, or answers false at the closed gate. Where it doesn't answer true,
+    /// `payload` stays as it was. After a fault the opening is given up.
     pub fn next<D: Disk>(
         &mut self,
         alloc: Global,
         disk: &mut D,
         payload: &mut Octets,
     ) -> Result<bool, OpenFault>
-        requires { Now (D.told disk.old) (λ held. self.old.size ≡ length held.octets) }
+        requires size { Now (D.told disk.old) (λ held. self.old.size ≡ length held.octets) }
+        requires file { Now (D.told disk.old) (IsReadTo self.old.base self.old.next) }
 
         ensures read { IfOk result (λ more. more ≡ true → Now (D.told disk.old) (ReadsOne self.old.base self.old.next self.new.next payload.new)) }
         ensures payload { IfOk result (λ more. more ≡ true → IsPayload payload.new) }
@@ -92,11 +103,19 @@ impl Opening {
         ensures end { IfOk result (λ more. more ≡ false → Now (D.told disk.old) (ReadsAll self.old.base self.old.next)) }
         ensures stay { IfOk result (λ more. more ≡ false → (self.new.next ≡ self.old.next) × (self.new.last ≡ self.old.last)) }
         ensures done { IfOk result (λ more. more ≡ false → self.new.done ≡ true) }
+        ensures untaken { IfOk result (λ more. more ≡ false → payload.new ≡ payload.old) }
+
+        // At the closed gate the file is as an append asks that follows `finish`, and else as the next call asks.
+        ensures closed { IfOk result (λ more. more ≡ false → Now (D.told disk.new) (EndsAt self.new.next)) }
+        ensures sized { Now (D.told disk.new) (λ held. self.new.size ≡ length held.octets) }
+        ensures ready { Now (D.told disk.new) (IsReadTo self.new.base self.new.next) }
 
         ensures refused { IfErr result (λ fault. Now (D.told disk.old) (IsNotNext self.old.next fault)) }
         ensures kind { IfErr result IsNextFault }
         ensures cause { IsErrOf result OpenFault.DiskFault → Rose (D.faults disk.old) (D.faults disk.new) }
         ensures failed { IsErrOf result OpenFault.DiskFault → D.failed disk.new ≡ true }
+        ensures still { IfErr result (SaveAtDiskFault ((D.settled_now disk.old → D.settled_now disk.new) × (D.failed disk.new ≡ D.failed disk.old))) }
+        ensures unchanged { OnErr result ((self.new ≡ self.old) × (payload.new ≡ payload.old)) }
 
         ensures base { self.new.base ≡ self.old.base }
         ensures size { self.new.size ≡ self.old.size }
@@ -125,10 +144,7 @@ impl Opening {
         let Ok(()) = disk.read(self.next + 5, buffer.as_mut_slice()) else {
             return Err(OpenFault::DiskFault);
         };
-        payload.clear();
-        let Ok(()) = payload.push_all(buffer.as_slice()) else {
-            return Err(OpenFault::NoMemory);
-        };
+        *payload = Octets::from_vec(buffer);
         self.last = self.next;
         self.next += 5 + len as u64;
         Ok(true)
@@ -152,6 +168,7 @@ impl Opening {
     pub fn finish(self) -> Journal
         requires { self.done ≡ true }
         ensures end { result.end ≡ self.next }
+        ensures small { result.end < 2 ^ 62 }
         ensures unspent { result.spent ≡ false }
     {
         Journal {
@@ -166,10 +183,11 @@ pub(crate) fn settle<D: Disk>(disk: &mut D) -> Result<u64, DiskFailed>
     ensures synced { OnOk result (Becomes (λ held. settled held.octets) (D.told disk.old) (D.told disk.new)) }
     ensures size { IfOk result (λ size. Now (D.told disk.old) (λ held. size ≡ length held.octets)) }
     ensures small { IfOk result (λ size. size < 2 ^ 62) }
+    ensures kept { Turns IsUntouched (D.told disk.old) (D.told disk.new) }
     ensures settled { OnOk result (D.settled_now disk.new) }
     ensures unfailed { OnOk result (D.failed disk.new ≡ false) }
     ensures crash { CrashesAs IsImage (D.time disk.old, D.time disk.new) (D.told disk.old) (D.told disk.new) }
-    ensures silent { D.told disk.old ≡ None → D.told disk.new ≡ None }
+    ensures telling { is_some (D.told disk.new) ≡ is_some (D.told disk.old) }
     ensures failed { OnErr result (D.failed disk.new ≡ true) }
     ensures cause { OnErr result (Rose (D.faults disk.old) (D.faults disk.new)) }
     ensures later { D.time disk.old ≤ D.time disk.new }
@@ -191,6 +209,7 @@ fn open_long<D: Disk>(disk: &mut D, size: u64) -> Result<Opening, OpenFault>
     requires small { size < 2 ^ 62 }
     requires size { Now (D.told disk.old) (λ held. size ≡ length held.octets) }
     ensures header { IfOk result (λ opening. (opening.size ≡ size) × Now (D.told disk.old) (λ held. IsHeader opening.base (take 16 held.octets))) }
+    ensures based { IfOk result (λ opening. (1 ≤ opening.base) × (opening.base ≤ 2 ^ 61)) }
     ensures first { IfOk result (λ opening. (opening.next ≡ 16) × (opening.done ≡ false)) }
     ensures refused { IfErr result (λ fault. Now (D.told disk.old) (IsNotBegun fault)) }
     ensures kind { IfErr result IsBeginFault }
@@ -199,6 +218,7 @@ fn open_long<D: Disk>(disk: &mut D, size: u64) -> Result<Opening, OpenFault>
     ensures same { D.told disk.new ≡ D.told disk.old }
     ensures settled { OnOk result (D.settled_now disk.old → D.settled_now disk.new) }
     ensures unfailed { OnOk result (D.failed disk.new ≡ D.failed disk.old) }
+    ensures still { IfErr result (SaveAtDiskFault ((D.settled_now disk.old → D.settled_now disk.new) × (D.failed disk.new ≡ D.failed disk.old))) }
     ensures later { D.time disk.old ≤ D.time disk.new }
     ensures count { D.faults disk.old ≤ D.faults disk.new }
 {
@@ -222,6 +242,7 @@ fn open_long<D: Disk>(disk: &mut D, size: u64) -> Result<Opening, OpenFault>
 fn find_short<D: Disk>(disk: &mut D, size: u64) -> Result<Option<u64>, DiskFailed>
     requires short { size ≤ 17 }
     requires size { Now (D.told disk.old) (λ held. size ≡ length held.octets) }
+    ensures based { IfOk result (λ found. IfSome found (λ base. (1 ≤ base) × (base ≤ 2 ^ 61))) }
     ensures found { IfOk result (λ found. Now (D.told disk.old) (λ held. IsEmptyWith found held.octets)) }
     ensures same { D.told disk.new ≡ D.told disk.old }
     ensures settled { OnOk result (D.settled_now disk.old → D.settled_now disk.new) }
@@ -237,6 +258,7 @@ fn find_short<D: Disk>(disk: &mut D, size: u64) -> Result<Option<u64>, DiskFaile
 
 fn find_in<D: Disk>(disk: &mut D, front: &mut [u8]) -> Result<Option<u64>, DiskFailed>
     requires { Now (D.told disk.old) (λ held. length front.old ≡ length held.octets) }
+    ensures based { IfOk result (λ found. IfSome found (λ base. (1 ≤ base) × (base ≤ 2 ^ 61))) }
     ensures found { IfOk result (λ found. Now (D.told disk.old) (λ held. IsEmptyWith found held.octets)) }
     ensures same { D.told disk.new ≡ D.told disk.old }
     ensures settled { OnOk result (D.settled_now disk.old → D.settled_now disk.new) }
@@ -254,13 +276,14 @@ fn find_in<D: Disk>(disk: &mut D, front: &mut [u8]) -> Result<Option<u64>, DiskF
 fn make<D: Disk>(disk: &mut D, base: u64) -> Result<Opening, OpenFault>
     ensures made { IfOk result (λ opening. (opening.base ≡ base) × (opening.size ≡ 17) × Becomes (λ held. settled (header_2 base ++ 0 ∷ drop 17 held.octets)) (D.told disk.old) (D.told disk.new)) }
     ensures first { IfOk result (λ opening. (opening.next ≡ 16) × (opening.done ≡ false)) }
+    ensures spoiled { OnErr result (Turns (SpoilsAt 0 17) (D.told disk.old) (D.told disk.new)) }
     ensures crash { CrashesAs (λ held. IsImage (touched 0 17 held)) (D.time disk.old, D.time disk.new) (D.told disk.old) (D.told disk.new) }
     ensures settled { OnOk result (D.settled_now disk.new) }
     ensures unfailed { OnOk result (D.failed disk.new ≡ false) }
     ensures kind { IfErr result (λ fault. fault ≡ OpenFault.DiskFault) }
     ensures failed { OnErr result (D.failed disk.new ≡ true) }
     ensures cause { OnErr result (Rose (D.faults disk.old) (D.faults disk.new)) }
-    ensures silent { D.told disk.old ≡ None → D.told disk.new ≡ None }
+    ensures telling { is_some (D.told disk.new) ≡ is_some (D.told disk.old) }
     ensures later { D.time disk.old ≤ D.time disk.new }
     ensures count { D.faults disk.old ≤ D.faults disk.new }
 {

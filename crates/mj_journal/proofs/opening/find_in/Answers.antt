@@ -7,4 +7,4 @@ pub returns-clause-found : goal.returns-clause-found
 returns-clause-found g c history is =
     let sized = c.requires history is in
     let all : length history.now.octets ≤ length c.args.front.now = omega (arith, sized) in
-    subst (λ (l : List ℕ). IsEmptyWith c.read_empty.result l) (c.in_ok-read.ensures.octets history is ∙ take_all _ history.now.octets all) c.read_empty.ensures
+    subst (λ (l : List ℕ). IsEmptyWith c.read_empty.result l) (c.in_ok-read.ensures.octets history is ∙ take_all _ history.now.octets all) c.read_empty.ensures.found

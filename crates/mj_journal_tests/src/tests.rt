@@ -1,66 +1,13 @@
-ghost use Rattle.std.specs.Prelude.{◌≡◌, None};
+ghost use Rattle.std.specs.Prelude.{◌≡◌, false, ◌≤◌, ◌^◌, OnOk, IfOk};
+ghost use Rattle.mj_disk.specs.DiskModel.{Now};
+ghost use Rattle.mj_journal.specs.Appending.{EndsAt};
 
-use super::{
-    AppendFault, Journal, MakeFault, Making, OpenFault, Opening, an_opening_gives_the_list,
-};
 use mj_base::Octets;
-use mj_disk::{Disk, DiskFailed, FileDisk, MemoryDisk};
+use mj_disk::{Disk, FileDisk, MemoryDisk};
+use mj_journal::{AppendFault, Journal, MakeFault, Making, OpenFault, Opening};
 use std::alloc::Global;
 use std::fs;
 use std::test::Fail;
-
-/// A memory disk that doesn't tell what it holds, as a file doesn't.
-#[derive(Drop)]
-struct Untold {
-    disk: MemoryDisk,
-}
-
-impl Disk for Untold {
-    ghost use Rattle.std.specs.Prelude.{None};
-    ghost use Rattle.mj_disk.specs.Laws.{none_told};
-
-    ghost told = { λ _. None };
-
-    ghost time = { λ d. ⟦<MemoryDisk as Disk>⟧.time d.disk };
-
-    ghost settled_now = { λ d. ⟦<MemoryDisk as Disk>⟧.settled_now d.disk };
-
-    ghost failed = { λ d. ⟦<MemoryDisk as Disk>⟧.failed d.disk };
-
-    ghost faults = { λ d. ⟦<MemoryDisk as Disk>⟧.faults d.disk };
-
-    ghost settled_told = { λ d history is settled. none_told history is };
-
-    ghost in_time = { λ d history is. none_told history is };
-
-    ghost reads_image = { λ d history is. none_told history is };
-
-    fn size(&mut self) -> Result<u64, DiskFailed> {
-        self.disk.size()
-    }
-
-    fn read(&mut self, at: u64, into: &mut [u8]) -> Result<(), DiskFailed> {
-        let len = self.disk.as_slice().len();
-        if at as usize > len || into.len() > len - at as usize {
-            self.disk.size()?;
-            return Ok(());
-        }
-        self.disk.read(at, into)
-    }
-
-    fn write(&mut self, at: u64, octets: &[u8]) -> Result<(), DiskFailed> {
-        let len = self.disk.as_slice().len() as u64;
-        self.disk.write(at.min(len), octets)
-    }
-
-    fn sync(&mut self) -> Result<(), DiskFailed> {
-        self.disk.sync()
-    }
-
-    fn moment(&self) -> u64 {
-        self.disk.moment()
-    }
-}
 
 const HEADER_1: &[u8; 17] = b"MJTSTOR1\0\0\0\0\0\0\0\0\0";
 
@@ -82,26 +29,36 @@ fn disk_of(
     bytes: &[u8],
     failing: Vec<u64>,
     stop: Option<u64>,
-) -> Result<Untold, Fail> {
+) -> Result<MemoryDisk, Fail> {
     let mut octets = Octets::new(alloc);
     octets.push_all(bytes)?;
     if octets.len() > 200 {
         return Err("no room".into());
     }
-    let disk = MemoryDisk::new(alloc, octets, 200, failing, stop)?;
-    Ok(Untold { disk })
+    Ok(MemoryDisk::new(alloc, octets, 200, failing, stop)?)
 }
 
-/// Opens a file, and gives its journal and the number of its payloads.
-fn open<D: Disk>(alloc: Global, disk: &mut D, base: u64) -> Result<(Journal, u32), OpenFault>
-    requires told { D.told disk.old ≡ None }
-    requires base { base ≡ 1 }
+/// A file that was opened, and how many payloads it had.
+#[derive(Drop)]
+struct Opened {
+    journal: Journal,
+    count: u32,
+}
+
+/// Opens a file up to its closed gate.
+fn open<D: Disk>(alloc: Global, disk: &mut D, base: u64) -> Result<Opened, OpenFault>
+    requires low { 1 ≤ base }
+    requires high { base ≤ 2 ^ 61 }
+    ensures { IfOk result (λ opened. Now (D.told disk.new) (EndsAt opened.journal.end)) }
 {
     let mut opening = Opening::begin(disk, base)?;
     let mut payload = Octets::new(alloc);
     for count in 0..1000 {
         if !opening.next(alloc, disk, &mut payload)? {
-            return Ok((opening.finish(), count));
+            return Ok(Opened {
+                journal: opening.finish(),
+                count,
+            });
         }
     }
     Err(OpenFault::NoMemory)
@@ -113,22 +70,23 @@ fn append<D: Disk>(
     disk: &mut D,
     payload: &[u8],
 ) -> Result<(), AppendFault>
-    requires { D.told disk.old ≡ None }
+    requires { journal.old.spent ≡ false → Now (D.told disk.old) (EndsAt journal.old.end) }
+    ensures { journal.new.spent ≡ false → Now (D.told disk.new) (EndsAt journal.new.end) }
 {
-    if payload.is_empty() || payload.len() > 2_097_152 || journal.end() > 1 << 40 {
-        return Err(AppendFault::Spent);
+    if payload.is_empty() || payload.len() > 2_097_152 {
+        return Ok(());
     }
     journal.append(alloc, disk, payload)
 }
 
-fn opens_as(alloc: Global, disk: &Untold, few: u32, many: u32) -> Result<bool, Fail> {
+fn opens_as(alloc: Global, disk: &MemoryDisk, few: u32, many: u32) -> Result<bool, Fail> {
     for k in 0..3 {
-        let image = disk.disk.image(alloc, k)?;
+        let image = disk.image(alloc, k)?;
         let mut again = disk_of(alloc, image.as_slice(), Vec::new(alloc), None)?;
-        let Ok((_, count)) = open(alloc, &mut again, 1) else {
+        let Ok(opened) = open(alloc, &mut again, 1) else {
             return Ok(false);
         };
-        if count != few && count != many {
+        if opened.count != few && opened.count != many {
             return Ok(false);
         }
     }
@@ -140,23 +98,34 @@ fn three_appends_give_the_file_byte_for_byte(rt: HostRuntime) -> Result<(), Fail
     let alloc = rt.alloc();
     for (start, header) in [(HEADER_1.as_slice(), HEADER_1), (b"".as_slice(), HEADER_2)] {
         let mut disk = disk_of(alloc, start, Vec::new(alloc), None)?;
-        let (mut journal, count) = open(alloc, &mut disk, 1).or(Err("opening"))?;
-        assert_eq!(rt; count, 0);
-        assert!(rt; disk.disk.as_slice() == header.as_slice());
-        assert_eq!(rt; append(alloc, &mut journal, &mut disk, ACCEPT), Ok(()));
-        assert_eq!(rt; journal.end(), 51);
-        assert_eq!(rt; append(alloc, &mut journal, &mut disk, STORE), Ok(()));
-        assert_eq!(rt; journal.end(), 74);
-        assert_eq!(rt; append(alloc, &mut journal, &mut disk, CLOSE), Ok(()));
-        assert_eq!(rt; journal.end(), 88);
-        let file = disk.disk.as_slice();
+        let Ok(mut opened) = open(alloc, &mut disk, 1) else {
+            return Err("opening".into());
+        };
+        assert_eq!(rt; opened.count, 0);
+        assert!(rt; disk.as_slice() == header.as_slice());
+        assert_eq!(rt;
+            append(alloc, &mut opened.journal, &mut disk, ACCEPT),
+            Ok(())
+        );
+        assert_eq!(rt; opened.journal.end(), 51);
+        assert_eq!(rt;
+            append(alloc, &mut opened.journal, &mut disk, STORE),
+            Ok(())
+        );
+        assert_eq!(rt; opened.journal.end(), 74);
+        assert_eq!(rt;
+            append(alloc, &mut opened.journal, &mut disk, CLOSE),
+            Ok(())
+        );
+        assert_eq!(rt; opened.journal.end(), 88);
+        let file = disk.as_slice();
         assert_eq!(rt; file.len(), 89);
         assert!(rt; file[..16] == header[..16]);
         assert!(rt; file[16..] == RECORDS[..]);
-        let mut again = disk_of(alloc, disk.disk.as_slice(), Vec::new(alloc), None)?;
-        let (journal, count) = open(alloc, &mut again, 1).or(Err("opening"))?;
-        assert_eq!(rt; count, 3);
-        assert_eq!(rt; journal.end(), 88);
+        let mut again = disk_of(alloc, disk.as_slice(), Vec::new(alloc), None)?;
+        let opened = open(alloc, &mut again, 1).or(Err("opening"))?;
+        assert_eq!(rt; opened.count, 3);
+        assert_eq!(rt; opened.journal.end(), 88);
     }
     Ok(())
 }
@@ -164,11 +133,13 @@ fn three_appends_give_the_file_byte_for_byte(rt: HostRuntime) -> Result<(), Fail
 #[test]
 fn a_stop_in_an_append_leaves_the_old_file_or_the_new(rt: HostRuntime) -> Result<(), Fail> {
     let alloc = rt.alloc();
-    // Five calls of the disk come before the append.
+    // Four calls of the disk come before the append.
     for calls in 0..5 {
         let mut disk = disk_of(alloc, HEADER_1, Vec::new(alloc), Some(4 + calls))?;
-        let (mut journal, _) = open(alloc, &mut disk, 1).or(Err("opening"))?;
-        let answer = append(alloc, &mut journal, &mut disk, ACCEPT);
+        let Ok(mut opened) = open(alloc, &mut disk, 1) else {
+            return Err("opening".into());
+        };
+        let answer = append(alloc, &mut opened.journal, &mut disk, ACCEPT);
         if calls == 4 {
             assert_eq!(rt; answer, Ok(()));
             assert!(rt; opens_as(alloc, &disk, 1, 1)?);
@@ -176,7 +147,7 @@ fn a_stop_in_an_append_leaves_the_old_file_or_the_new(rt: HostRuntime) -> Result
             assert_eq!(rt; answer, Err(AppendFault::DiskFault));
             assert!(rt; opens_as(alloc, &disk, 0, 1)?);
             assert_eq!(rt;
-                append(alloc, &mut journal, &mut disk, ACCEPT),
+                append(alloc, &mut opened.journal, &mut disk, ACCEPT),
                 Err(AppendFault::Spent)
             );
         }
@@ -187,19 +158,20 @@ fn a_stop_in_an_append_leaves_the_old_file_or_the_new(rt: HostRuntime) -> Result
 #[test]
 fn each_failing_call_of_an_append_is_a_fault(rt: HostRuntime) -> Result<(), Fail> {
     let alloc = rt.alloc();
-    an_opening_gives_the_list::<MemoryDisk>();
     for (call, payloads) in [(4, 0), (5, 0), (6, 0), (7, 1)] {
         let mut failing = Vec::new(alloc);
         failing.push(call)?;
         let mut disk = disk_of(alloc, HEADER_1, failing, None)?;
-        let (mut journal, _) = open(alloc, &mut disk, 1).or(Err("opening"))?;
+        let Ok(mut opened) = open(alloc, &mut disk, 1) else {
+            return Err("opening".into());
+        };
         assert_eq!(rt;
-            append(alloc, &mut journal, &mut disk, ACCEPT),
+            append(alloc, &mut opened.journal, &mut disk, ACCEPT),
             Err(AppendFault::DiskFault)
         );
         assert!(rt; opens_as(alloc, &disk, 0, 1)?);
-        let (_, count) = open(alloc, &mut disk, 1).or(Err("opening"))?;
-        assert_eq!(rt; count, payloads);
+        let opened = open(alloc, &mut disk, 1).or(Err("opening"))?;
+        assert_eq!(rt; opened.count, payloads);
     }
     Ok(())
 }
@@ -247,7 +219,7 @@ fn other_files_are_refused_by_name(rt: HostRuntime) -> Result<(), Fail> {
             Ok(_) => return Err("it was opened".into()),
             Err(met) => assert_eq!(rt; met, fault, "{file:?}"),
         }
-        assert!(rt; disk.disk.as_slice() == file);
+        assert!(rt; disk.as_slice() == file);
     }
     Ok(())
 }
@@ -265,7 +237,7 @@ fn a_file_cut_short_is_damaged_or_has_fewer_payloads(rt: HostRuntime) -> Result<
         }
         let mut disk = disk_of(alloc, &file[..len], Vec::new(alloc), None)?;
         let answer = match open(alloc, &mut disk, 1) {
-            Ok((_, count)) => Ok(count),
+            Ok(opened) => Ok(opened.count),
             Err(fault) => Err(fault),
         };
         let wanted = match len {
@@ -288,11 +260,13 @@ fn any_open_gate_will_do(rt: HostRuntime) -> Result<(), Fail> {
     file[16..].copy_from_slice(RECORDS);
     file[51] = 7;
     let mut disk = disk_of(alloc, &file, Vec::new(alloc), None)?;
-    let (journal, count) = open(alloc, &mut disk, 1).or(Err("opening"))?;
-    assert_eq!(rt; count, 3);
+    let Ok(opened) = open(alloc, &mut disk, 1) else {
+        return Err("opening".into());
+    };
+    assert_eq!(rt; opened.count, 3);
     let mut into = [0; 9];
-    if journal.end() == 88 {
-        assert_eq!(rt; journal.read(&mut disk, 79, &mut into), Ok(()));
+    if opened.journal.end() == 88 {
+        assert_eq!(rt; opened.journal.read(&mut disk, 79, &mut into), Ok(()));
     }
     assert_eq!(rt; into, *CLOSE);
     Ok(())
@@ -305,7 +279,9 @@ fn a_payload_is_handed_out_with_its_gate(rt: HostRuntime) -> Result<(), Fail> {
     file[..16].copy_from_slice(&HEADER_1[..16]);
     file[16..].copy_from_slice(RECORDS);
     let mut disk = disk_of(alloc, &file, Vec::new(alloc), None)?;
-    let mut opening = Opening::begin(&mut disk, 7).or(Err("opening"))?;
+    let Ok(mut opening) = Opening::begin(&mut disk, 7) else {
+        return Err("opening".into());
+    };
     assert_eq!(rt; opening.base(), 1);
     let mut payload = Octets::new(alloc);
     assert_eq!(rt; opening.next(alloc, &mut disk, &mut payload), Ok(true));
@@ -321,18 +297,36 @@ fn a_payload_is_handed_out_with_its_gate(rt: HostRuntime) -> Result<(), Fail> {
 fn a_file_in_the_making_is_no_store(rt: HostRuntime) -> Result<(), Fail> {
     let alloc = rt.alloc();
     let mut disk = disk_of(alloc, b"", Vec::new(alloc), None)?;
-    let mut making = Making::begin(&mut disk, 2).or(Err("making"))?;
-    assert!(rt; Making::begin(&mut disk, 2).is_err_and(|fault| fault == MakeFault::NotEmpty));
+    let Ok(mut making) = Making::begin(&mut disk, 2) else {
+        return Err("making".into());
+    };
     assert_eq!(rt; making.append(alloc, &mut disk, CLOSE), Ok(()));
-    let mut early = disk_of(alloc, disk.disk.as_slice(), Vec::new(alloc), None)?;
+    assert_eq!(rt; making.append(alloc, &mut disk, STORE), Ok(()));
+    let mut early = disk_of(alloc, disk.as_slice(), Vec::new(alloc), None)?;
     assert!(rt; open(alloc, &mut early, 1).is_err_and(|fault| fault == OpenFault::NotAStore));
-    let journal = making.finish(&mut disk)?;
-    assert_eq!(rt; journal.end(), 30);
-    let mut opening = Opening::begin(&mut disk, 1).or(Err("opening"))?;
+    let Ok(mut journal) = making.finish(&mut disk) else {
+        return Err("finishing".into());
+    };
+    assert_eq!(rt; journal.end(), 53);
+    assert_eq!(rt; journal.append(alloc, &mut disk, CLOSE), Ok(()));
+    let Ok(mut opening) = Opening::begin(&mut disk, 1) else {
+        return Err("opening".into());
+    };
     assert_eq!(rt; opening.base(), 2);
     let mut payload = Octets::new(alloc);
     assert_eq!(rt; opening.next(alloc, &mut disk, &mut payload), Ok(true));
     assert!(rt; payload.as_slice() == CLOSE.as_slice());
+    assert!(rt; opens_as(alloc, &disk, 3, 3)?);
+    Ok(())
+}
+
+#[test]
+fn a_file_that_is_not_empty_is_not_made_anew(rt: HostRuntime) -> Result<(), Fail> {
+    let alloc = rt.alloc();
+    let mut disk = disk_of(alloc, b"M", Vec::new(alloc), None)?;
+    let made = Making::begin(&mut disk, 2);
+    assert!(rt; made.is_err_and(|fault| fault == MakeFault::NotEmpty));
+    assert!(rt; disk.as_slice() == b"M".as_slice());
     Ok(())
 }
 
@@ -341,14 +335,22 @@ fn a_real_file_is_opened_again(rt: HostRuntime) -> Result<(), Fail> {
     let alloc = rt.alloc();
     let path = "journal_test";
     let mut disk = FileDisk::new(&rt, String::from_str(alloc, path)?);
-    let (mut journal, count) = open(alloc, &mut disk, 1).or(Err("opening"))?;
-    assert_eq!(rt; count, 0);
-    assert_eq!(rt; append(alloc, &mut journal, &mut disk, STORE), Ok(()));
-    assert_eq!(rt; append(alloc, &mut journal, &mut disk, CLOSE), Ok(()));
+    let Ok(mut opened) = open(alloc, &mut disk, 1) else {
+        return Err("opening".into());
+    };
+    assert_eq!(rt; opened.count, 0);
+    assert_eq!(rt;
+        append(alloc, &mut opened.journal, &mut disk, STORE),
+        Ok(())
+    );
+    assert_eq!(rt;
+        append(alloc, &mut opened.journal, &mut disk, CLOSE),
+        Ok(())
+    );
     let mut again = FileDisk::new(&rt, String::from_str(alloc, path)?);
-    let (journal, count) = open(alloc, &mut again, 1).or(Err("opening"))?;
-    assert_eq!(rt; count, 2);
-    assert_eq!(rt; journal.end(), 53);
+    let opened = open(alloc, &mut again, 1).or(Err("opening"))?;
+    assert_eq!(rt; opened.count, 2);
+    assert_eq!(rt; opened.journal.end(), 53);
     fs::remove_file(&rt, path)?;
     Ok(())
 }

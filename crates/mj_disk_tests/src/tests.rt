@@ -1,7 +1,10 @@
-use super::{Disk, DiskFailed, FileDisk, MemoryDisk, write_synced};
+ghost use Rattle.std.specs.Prelude.{◌≡◌, None};
+
 use mj_base::Octets;
+use mj_disk::{Disk, DiskFailed, FileDisk, MemoryDisk, SIZE_LIMIT, write_synced};
 use std::alloc::Global;
 use std::fs;
+use std::process::Abort;
 use std::test::Fail;
 
 fn disk_of(
@@ -89,21 +92,36 @@ fn a_write_past_the_room_fails(rt: HostRuntime) -> Result<(), Fail> {
     Ok(())
 }
 
+/// A file of these five bytes, seen by all calls that change nothing.
+fn holds_abxyz<D: Disk>(rt: &impl Abort, file: &mut D)
+    requires { D.told file.old ≡ None }
+{
+    let mut all = [0; 5];
+    let mut part = [0; 4];
+    assert_eq!(rt; file.size(), Ok(5));
+    assert_eq!(rt; file.read(0, &mut all), Ok(()));
+    assert_eq!(rt; all, *b"abxyz");
+    assert_eq!(rt; file.read(1, &mut part), Ok(()));
+    assert_eq!(rt; part, *b"bxyz");
+    assert_eq!(rt; file.read(2, &mut part), Err(DiskFailed));
+    assert_eq!(rt; file.write(SIZE_LIMIT - 1, b"x"), Err(DiskFailed));
+    assert_eq!(rt; file.size(), Ok(5));
+    assert_eq!(rt; file.moment(), 0);
+}
+
+/// A file tells no content, so that its size and what is read of it are shown here alone.
 #[test]
 fn a_file_disk_keeps_its_bytes(rt: HostRuntime) -> Result<(), Fail> {
     let alloc = rt.alloc();
-    let path = String::from_str(alloc, "file_disk_test")?;
-    let mut disk = FileDisk::new(&rt, path);
+    let path = "file_disk_test";
+    let mut disk = FileDisk::new(&rt, String::from_str(alloc, path)?);
     assert_eq!(rt; disk.size(), Ok(0));
     assert_eq!(rt; write_synced(&mut disk, 0, b"abcd"), Ok(()));
     assert_eq!(rt; disk.write(2, b"xyz"), Ok(()));
     assert_eq!(rt; disk.sync(), Ok(()));
-    let mut again = FileDisk::new(&rt, String::from_str(alloc, "file_disk_test")?);
-    let mut into = [0; 4];
-    assert_eq!(rt; again.read(1, &mut into), Ok(()));
-    assert_eq!(rt; into, *b"bxyz");
-    assert_eq!(rt; again.read(2, &mut into), Err(DiskFailed));
-    assert_eq!(rt; again.moment(), 0);
-    fs::remove_file(&rt, "file_disk_test")?;
+    holds_abxyz(&rt, &mut disk);
+    let mut again = FileDisk::new(&rt, String::from_str(alloc, path)?);
+    holds_abxyz(&rt, &mut again);
+    fs::remove_file(&rt, path)?;
     Ok(())
 }
