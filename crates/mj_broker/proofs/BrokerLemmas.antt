@@ -16,7 +16,7 @@ use Rattle.mj_machine.proofs.NextLemmas.{next-happens, next-opens}
 use Rattle.mj_machine.proofs.ConnectionLemmas.{equal}
 use Rattle.mj_broker.specs.declared.wires.Link.{Link}
 use Rattle.mj_broker.specs.BrokerState.{AreReady, AreSettled, BrokerValue, IsAt, IsStep}
-use Rattle.mj_broker.specs.CoreState.{Does}
+use Rattle.mj_routing.specs.RoutingState.{Does}
 use Rattle.mj_broker.specs.Wires.{AreFresh, MayBeFed, SameNumbers, WiresStand, kept_links, wire_of}
 use Rattle.mj_broker.proofs.WireLemmas.{fresh-kept, kept-wire, wires-kept}
 

@@ -1,7 +1,2 @@
-pub mod PlaceLemmas
-pub mod DeadlineLemmas
-pub mod KeptLemmas
-pub mod SettleLemmas
-pub mod DueLemmas
 pub mod WireLemmas
 pub mod BrokerLemmas

@@ -1,5 +1,7 @@
 -- Readers of streams: where they stand, fed, added and dropped.
-use Rattle.std.proofs.Common.{◌≡◌, ◌≢◌, ◌⊎◌, ◌+◌, ◌<◌, ◌≤◌, ◌==◌, ◌++◌, ℕ, zero, suc, Bool, true, false, not, nat_lt, cond, List, [], ◌∷◌, length, get_or, slice_set, is_some, Option, None, Some, refl, sym, ap, subst, ◌∙◌, inl, inr, arith}
+use Rattle.std.proofs.Common.{◌≡◌, ◌≢◌, ◌⊎◌, ◌+◌, ◌<◌, ◌≤◌, ◌==◌, ◌++◌, ℕ, zero, suc, Bool, true, false, not, nat_lt, cond, List, [], ◌∷◌, length, get_or, take, slice_set, is_some, Option, None, Some, refl, sym, ap, subst, ◌∙◌, inl, inr, add-one, arith}
+use Rattle.std.proofs.Math.Seq.{take-suc}
+use Rattle.std.proofs.lemmas.List.{take_all}
 use Rattle.std.specs.Option.{option_map, unwrap_or}
 use Rattle.std.specs.List.{find, position, position_or_len}
 use Rattle.std.proofs.lemmas.Bool.Decides.{eqb_tells, nat_tests}
@@ -216,3 +218,26 @@ fresh-kept cs ls fresh = λ q. rw (kept-wire cs ls q) (of (is_some (connection_o
     of : (b : Bool) (q : ℕ) → MayBeFed (cond {A = Option WireValue} b (wire_of q ls) None)
     of true q = fresh q
     of false q = tt
+
+-- ---- readers that are all there
+
+kept-append : (cs : List Connection) (xs ys : List Link) → kept_links cs (xs ++ ys) ≡ kept_links cs xs ++ kept_links cs ys
+kept-append cs [] ys = refl
+kept-append cs (x ∷ xs) ys = by (is_some (connection_of x.number cs)) (kept-append cs xs ys)
+  where
+    by : (b : Bool) → kept_links cs (xs ++ ys) ≡ kept_links cs xs ++ kept_links cs ys
+        → cond b (x ∷ kept_links cs (xs ++ ys)) (kept_links cs (xs ++ ys)) ≡ cond b (x ∷ kept_links cs xs) (kept_links cs xs) ++ kept_links cs ys
+    by true rest = ap (λ (ls : List Link). x ∷ ls) rest
+    by false rest = rest
+
+-- one more that is there
+pub kept-more : (cs : List Connection) (ls : List Link) (i : ℕ) (x : Link) → i < length ls → x ≡ get_or ls i x → is_some (connection_of x.number cs) ≡ true
+    → kept_links cs (take i ls) ≡ take i ls → kept_links cs (take (i + 1) ls) ≡ take (i + 1) ls
+kept-more cs ls i x inside is there before =
+    let next : take (i + 1) ls ≡ take i ls ++ x ∷ [] =
+    rw add-one (take-suc ls i x inside) ∙ ap (λ (y : Link). take i ls ++ y ∷ []) (sym is) in
+    let alone : kept_links cs (x ∷ []) ≡ x ∷ [] = rw there refl in
+    ap (kept_links cs) next ∙ kept-append cs (take i ls) (x ∷ []) ∙ ap (λ (ks : List Link). ks ++ kept_links cs (x ∷ [])) before ∙ ap (λ (ks : List Link). take i ls ++ ks) alone ∙ sym next
+
+pub kept-whole : (cs : List Connection) (ls : List Link) (i : ℕ) → length ls ≤ i → kept_links cs (take i ls) ≡ take i ls → kept_links cs ls ≡ ls
+kept-whole cs ls i over before = subst (λ (ks : List Link). kept_links cs ks ≡ ks) (take_all i ls over) before

@@ -7,9 +7,9 @@ use Rattle.mj_base.specs.declared.event.Out.{Out}
 use Rattle.mj_queue.specs.Settling.{pair}
 use Rattle.mj_machine.specs.MachineState.{Machine, State, Stream}
 use Rattle.mj_machine.specs.EventStep.{outs_of, state_after, streams_after}
-use Rattle.mj_machine.specs.TickStep.{at_moment, due_numbers, silent_numbers}
 use Rattle.mj_machine.specs.Connections.{connection_of}
 use Rattle.mj_machine.specs.declared.connection.Connection.{Connection}
+use Rattle.mj_routing.specs.RoutingState.{IsIdleAt}
 use Rattle.mj_broker.specs.declared.wires.Link.{Link}
 use Rattle.mj_broker.specs.Wires.{AreFresh, WiresStand, wire_of}
 
@@ -37,9 +37,6 @@ pub record AreSettled (state : State) (wires : List Link) : Type 0 where
   pub ready : AreReady state.connections wires
   pub ended : (n : ℕ) → connection_of n state.connections ≡ None → wire_of n wires ≡ None
   pub settled : pair state.waiting state.queue ≡ None
-
-abbrev pub IsIdleAt : ℕ → State → Type 0
-IsIdleAt ms s = (due_numbers (at_moment ms s) ≡ []) × (silent_numbers (at_moment ms s) ≡ [])
 
 -- events that want no memory, where no queued request has a waiting worker: a report, a closing, and a tick at which no
 -- lease ends and no heartbeat is due

@@ -8,9 +8,10 @@ ghost use Rattle.mj_machine.specs.EventStep.{outs_of, state_after};
 ghost use Rattle.mj_broker.specs.BrokerState.{AreReady, AreSettled, IsAt, IsIdle, IsStep};
 
 use crate::fault::EventFault;
-use crate::machine::Core;
+use crate::happen;
 use crate::wires::{Link, drop_ended, feed};
 use mj_base::{Event, Limits, NoMemory, Octets, Out};
+use mj_routing::Routing;
 use mj_wire::Wire;
 use std::alloc::Global;
 use std::marker::Model;
@@ -19,7 +20,7 @@ use std::marker::Model;
 #[derive(Drop)]
 pub struct Broker {
     limits: Limits,
-    core: Core,
+    routing: Routing,
     wires: Vec<Link>,
     spent: bool,
 }
@@ -30,9 +31,9 @@ impl Model for Broker {
 
     ghost Value = { BrokerValue };
 
-    ghost view = { λ b. record { limits = b.limits; state = b.core; wires = b.wires.items; spent = b.spent } };
+    ghost view = { λ b. record { limits = b.limits; state = b.routing; wires = b.wires.items; spent = b.spent } };
 
-    ghost invariant = { λ b. b.spent ≡ false → AreSettled b.core b.wires.items };
+    ghost invariant = { λ b. b.spent ≡ false → AreSettled b.routing b.wires.items };
 }
 
 impl Broker {
@@ -45,7 +46,7 @@ impl Broker {
     {
         Ok(Broker {
             limits: *limits,
-            core: Core::new(alloc, limits)?,
+            routing: Routing::new(alloc, limits)?,
             wires: Vec::new(alloc),
             spent: false,
         })
@@ -89,12 +90,12 @@ impl Broker {
         handle(
             alloc,
             &self.limits,
-            &mut self.core,
+            &mut self.routing,
             &mut self.wires,
             event,
             outs,
         )?;
-        drop_ended(&mut self.wires, &self.core);
+        drop_ended(&mut self.wires, &self.routing);
         self.spent = false;
         Ok(())
     }
@@ -103,27 +104,27 @@ impl Broker {
 fn handle(
     alloc: Global,
     limits: &Limits,
-    core: &mut Core,
+    routing: &mut Routing,
     wires: &mut Vec<Link>,
     event: Event,
     outs: &mut Vec<Out>,
 ) -> Result<(), NoMemory>
     requires within { IsTakenBy limits.now.lanes event }
-    requires few { core.old.next < 2 ^ 63 }
-    requires ready { AreReady core.old.connections wires.old.items }
-    requires settled { pair core.old.waiting core.old.queue ≡ None }
-    ensures idle { IsIdle core.old event → IsOk result }
-    ensures step { OnOk result (IsStep limits.now event core.old core.new wires.old.items wires.new.items outs.old.items outs.new.items) }
-    ensures ready { OnOk result (AreReady core.new.connections wires.new.items) }
-    ensures settled { OnOk result (pair core.new.waiting core.new.queue ≡ None) }
-    ensures next { OnOk result (core.new.next ≤ core.old.next + 1) }
+    requires few { routing.old.next < 2 ^ 63 }
+    requires ready { AreReady routing.old.connections wires.old.items }
+    requires settled { pair routing.old.waiting routing.old.queue ≡ None }
+    ensures idle { IsIdle routing.old event → IsOk result }
+    ensures step { OnOk result (IsStep limits.now event routing.old routing.new wires.old.items wires.new.items outs.old.items outs.new.items) }
+    ensures ready { OnOk result (AreReady routing.new.connections wires.new.items) }
+    ensures settled { OnOk result (pair routing.new.waiting routing.new.queue ≡ None) }
+    ensures next { OnOk result (routing.new.next ≤ routing.old.next + 1) }
 {
     match event {
-        Event::Open(lane) => open(alloc, limits, core, wires, lane, outs),
-        Event::Bytes(lane, piece) => take_piece(alloc, core, wires, lane, &piece, outs),
-        Event::Sent(lane) => core.report(alloc, lane, outs),
-        Event::Close(lane) => core.close(alloc, lane, outs),
-        Event::Tick(ms) => core.pass(alloc, ms, outs),
+        Event::Open(lane) => open(alloc, limits, routing, wires, lane, outs),
+        Event::Bytes(lane, piece) => take_piece(alloc, routing, wires, lane, &piece, outs),
+        Event::Sent(lane) => happen::report(alloc, routing, lane, outs),
+        Event::Close(lane) => happen::close(alloc, routing, lane, outs),
+        Event::Tick(ms) => happen::pass(alloc, routing, ms, outs),
         Event::Stop => Ok(()),
     }
 }
@@ -132,46 +133,46 @@ fn handle(
 fn open(
     alloc: Global,
     limits: &Limits,
-    core: &mut Core,
+    routing: &mut Routing,
     wires: &mut Vec<Link>,
     lane: u32,
     outs: &mut Vec<Out>,
 ) -> Result<(), NoMemory>
-    requires few { core.old.next < 2 ^ 63 }
-    requires ready { AreReady core.old.connections wires.old.items }
-    ensures step { OnOk result (IsStep limits.now (AnEvent.Open lane) core.old core.new wires.old.items wires.new.items outs.old.items outs.new.items) }
-    ensures ready { OnOk result (AreReady core.new.connections wires.new.items) }
-    ensures settled { OnOk result (pair core.new.waiting core.new.queue ≡ None) }
-    ensures next { OnOk result (core.new.next ≤ core.old.next + 1) }
+    requires few { routing.old.next < 2 ^ 63 }
+    requires ready { AreReady routing.old.connections wires.old.items }
+    ensures step { OnOk result (IsStep limits.now (AnEvent.Open lane) routing.old routing.new wires.old.items wires.new.items outs.old.items outs.new.items) }
+    ensures ready { OnOk result (AreReady routing.new.connections wires.new.items) }
+    ensures settled { OnOk result (pair routing.new.waiting routing.new.queue ≡ None) }
+    ensures next { OnOk result (routing.new.next ≤ routing.old.next + 1) }
 {
     let link = Link {
-        number: core.next_number(),
+        number: routing.next_number(),
         wire: Wire::new(alloc, limits)?,
     };
     wires.insert(0, link)?;
-    core.open(alloc, lane, outs)
+    happen::open(alloc, routing, lane, outs)
 }
 
 /// The next piece of the stream of the lane's connection; without one it is passed over.
 fn take_piece(
     alloc: Global,
-    core: &mut Core,
+    routing: &mut Routing,
     wires: &mut Vec<Link>,
     lane: u32,
     piece: &Octets,
     outs: &mut Vec<Out>,
 ) -> Result<(), NoMemory>
-    requires ready { AreReady core.old.connections wires.old.items }
-    ensures step { OnOk result ((limits : LimitsOf) → IsStep limits (AnEvent.Bytes lane piece.now) core.old core.new wires.old.items wires.new.items outs.old.items outs.new.items) }
-    ensures ready { OnOk result (AreReady core.new.connections wires.new.items) }
-    ensures settled { OnOk result (pair core.new.waiting core.new.queue ≡ None) }
-    ensures next { OnOk result (core.new.next ≤ core.old.next + 1) }
+    requires ready { AreReady routing.old.connections wires.old.items }
+    ensures step { OnOk result ((limits : LimitsOf) → IsStep limits (AnEvent.Bytes lane piece.now) routing.old routing.new wires.old.items wires.new.items outs.old.items outs.new.items) }
+    ensures ready { OnOk result (AreReady routing.new.connections wires.new.items) }
+    ensures settled { OnOk result (pair routing.new.waiting routing.new.queue ≡ None) }
+    ensures next { OnOk result (routing.new.next ≤ routing.old.next + 1) }
 {
-    match core.number_on(lane) {
-        None => core.gain(alloc, lane, &[], outs),
+    match routing.number_on(lane) {
+        None => happen::gain(alloc, routing, lane, &[], outs),
         Some(number) => {
             let items = feed(alloc, wires, number, piece.as_slice())?;
-            core.gain(alloc, lane, items.as_slice(), outs)
+            happen::gain(alloc, routing, lane, items.as_slice(), outs)
         }
     }
 }

@@ -3,16 +3,9 @@
 #![tactic(auto)]
 
 mod broker;
-mod connections;
-mod deadlines;
 mod fault;
 mod happen;
-mod held;
-mod machine;
 mod message;
-mod said;
-mod text;
-mod tick;
 mod wires;
 
 pub use broker::Broker;

@@ -1,5 +1,5 @@
 //! The readers of the connections' streams, looked up by the connection's number.
-ghost use Rattle.std.specs.Prelude.{◌≡◌, ◌==◌, ℕ, List, [], position, None, IsSome, IfOk, OnOk};
+ghost use Rattle.std.specs.Prelude.{◌≡◌, ◌==◌, ℕ, List, [], true, position, None, IsSome, IfOk, OnOk};
 ghost use Rattle.mj_base.specs.declared.limits.Limits.{Limits as ALimits};
 ghost use Rattle.mj_wire.specs.StreamItems.{gained};
 ghost use Rattle.mj_wire.specs.WireState.{State as WireValue};
@@ -7,8 +7,8 @@ ghost use Rattle.mj_machine.specs.MachineState.{Stream};
 ghost use Rattle.mj_machine.specs.EventStep.{fed, stream_of};
 ghost use Rattle.mj_broker.specs.Wires.{AreFresh, IsLinkAt, SameNumbers, WiresStand, kept_links, wire_of};
 
-use crate::machine::Core;
 use mj_base::NoMemory;
+use mj_routing::Routing;
 use mj_wire::{Wire, WireItem};
 use std::alloc::Global;
 
@@ -55,8 +55,25 @@ pub fn feed(
 }
 
 /// Takes out the readers of connections that are there no more.
-pub fn drop_ended(links: &mut Vec<Link>, core: &Core)
-    ensures { links.new.items ≡ kept_links core.now.connections links.old.items }
+pub fn drop_ended(links: &mut Vec<Link>, routing: &Routing)
+    ensures { links.new.items ≡ kept_links routing.now.connections links.old.items }
 {
-    links.retain(|link| core.has(link.number));
+    if !are_there(links.as_slice(), routing) {
+        links.retain(|link| routing.has(link.number));
+    }
+}
+
+/// Whether each reader's connection is there. The readers stand in the order in which the connections opened, the
+/// last one first, so that each is looked for where its connection stands.
+fn are_there(links: &[Link], routing: &Routing) -> bool
+    ensures { result ≡ true → kept_links routing.now.connections links.now ≡ links.now }
+{
+    let count = routing.count();
+    for i in 0..links.len() {
+        let place = count.saturating_sub(i).saturating_sub(1);
+        if !routing.has_near(place, links[i].number) {
+            return false;
+        }
+    }
+    true
 }

@@ -1,6 +1,0 @@
-use Rattle.mj_broker.proofs.DeadlineLemmas.{forgotten}
-use Rattle.mj_broker.proofs.deadlines.forget.Goals as goal
-
-pub returns : goal.returns
-returns c = λ limits before now held_before held_now stands same none.
-    forgotten limits before now held_before held_now c.args.leases.now.leases c.remove.new.self.leases c.args.number c.remove.ensures.leases none stands same

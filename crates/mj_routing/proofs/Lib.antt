@@ -1,0 +1,5 @@
+pub mod PlaceLemmas
+pub mod DeadlineLemmas
+pub mod KeptLemmas
+pub mod SettleLemmas
+pub mod DueLemmas

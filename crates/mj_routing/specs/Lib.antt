@@ -1,0 +1,4 @@
+pub mod Places
+pub mod Deadlines
+pub mod RoutingState
+pub mod Rows

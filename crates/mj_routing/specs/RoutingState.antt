@@ -1,0 +1,76 @@
+-- What the broker's lists stand for, and what holds of them between two calls.
+use Rattle.std.specs.Prelude.{ℕ, ◌≡◌, ◌<◌, ◌≤◌, ⊤, Bool, true, false, List, [], ◌∷◌, ◌++◌, map, Option, None, Some}
+use Rattle.std.specs.FinMap.{FinMap}
+use Rattle.std.specs.Ordering.{nat_cmp}
+use Rattle.mj_base.specs.declared.event.Out.{Out}
+use Rattle.mj_base.specs.declared.limits.Limits.{Limits}
+use Rattle.mj_queue.specs.HallState.{HallState}
+use Rattle.mj_queue.specs.Settling.{Pair, pair}
+use Rattle.mj_machine.specs.declared.connection.Connection.{Connection}
+use Rattle.mj_machine.specs.declared.held.Held.{Held}
+use Rattle.mj_machine.specs.MachineState.{State}
+use Rattle.mj_machine.specs.Acts.{Done}
+use Rattle.mj_machine.specs.Connections.{connection_of, voice_of}
+use Rattle.mj_machine.specs.Pairing.{dispatches, handed}
+use Rattle.mj_machine.specs.MessageStep.{busy_of}
+use Rattle.mj_machine.specs.TickStep.{at_moment, due_numbers, silent_numbers}
+use Rattle.mj_routing.specs.Deadlines.{LeasesStand}
+use Rattle.mj_routing.specs.declared.routing.Handed.{Handed}
+
+-- the machine's state that these lists are
+abbrev pub seen : Limits → ℕ → ℕ → List Connection → HallState → List Held → State
+seen limits moment next connections hall held = record {
+  limits = limits;
+  now = moment;
+  next = next;
+  connections = connections;
+  waiting = hall.waiting;
+  held = held;
+  queue = hall.requests;
+}
+
+-- every later number is above this one
+abbrev pub AllAbove : ℕ → List Connection → Type 0
+AllAbove n [] = ⊤
+AllAbove n (c ∷ cs) = (n < c.number) × AllAbove n cs
+
+-- the numbers rise, and are below the next one
+abbrev pub AreRising : ℕ → List Connection → Type 0
+AreRising next [] = ⊤
+AreRising next (c ∷ cs) = (c.number < next) × AllAbove c.number cs × AreRising next cs
+
+-- the hall's busy workers are those that hold, the connections stand by rising number, and the table of deadlines
+-- stands for the workers' marks
+pub record AreKept (limits : Limits) (moment next : ℕ) (connections : List Connection) (hall : HallState) (held : List Held) (leases : FinMap nat_cmp ℕ) : Type 0 where
+  pub limited : hall.limits ≡ limits
+  pub busy : hall.busy ≡ map busy_of held
+  pub rising : AreRising next connections
+  pub deadlines : LeasesStand limits connections held leases
+  pub clock : moment ≤ 1000000000000000
+
+-- an act was done: the state after it, and what it added
+pub record Does (now : State) (before after : List Out) (act : Done Out) : Type 0 where
+  pub state : now ≡ act.0
+  pub outs : after ≡ before ++ act.1
+
+abbrev pub handed_of : Pair → State → Handed
+handed_of p s = record { worker = p.waiter.worker; voice = voice_of (connection_of p.waiter.worker s.connections); origin = p.request.origin; body = p.request.body }
+
+-- the first pair was handed over, or there is none
+abbrev pub HandsOver : State → State → Option Handed → Type 0
+HandsOver old now None = (pair old.waiting old.queue ≡ None) × (now ≡ old)
+HandsOver old now (Some given) = (p : Pair) × (pair old.waiting old.queue ≡ Some p) × (now ≡ handed p old) × (given ≡ handed_of p old)
+
+-- one pair was dispatched, or there is none
+abbrev pub Turns : State → State → List Out → List Out → Bool → Type 0
+Turns old now before after true = (p : Pair) × (pair old.waiting old.queue ≡ Some p) × Does now before after (dispatches (Some p) old)
+Turns old now before after false = (pair old.waiting old.queue ≡ None) × (now ≡ old) × (after ≡ before)
+
+-- of an act in parts: what was done so far and what is left are the whole
+pub record Goes (whole left : Done Out) (before now : List Out) : Type 0 where
+  pub state : left.0 ≡ whole.0
+  pub outs : now ++ left.1 ≡ before ++ whole.1
+
+-- a tick to this moment ends no lease, and no heartbeat is due then
+abbrev pub IsIdleAt : ℕ → State → Type 0
+IsIdleAt ms s = (due_numbers (at_moment ms s) ≡ []) × (silent_numbers (at_moment ms s) ≡ [])

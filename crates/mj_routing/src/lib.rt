@@ -1,0 +1,16 @@
+//! What routes between clients and workers: the connections, who waits for what, what workers hold, and when leases
+//! end. Each method is an act of the machine's definitions; the streams of bytes stand above.
+#![tactic(auto)]
+
+mod connections;
+mod deadlines;
+mod held;
+mod routing;
+mod said;
+mod text;
+mod tick;
+
+pub use connections::Standing;
+pub use routing::Routing;
+pub use said::read_message;
+pub use text::{is_address, order_octets, reply_octets};
