@@ -34,7 +34,7 @@ all-found P n f (c ∷ cs) step all = by (c.number == n) step (λ s. all-found P
     by true step rest = (step c refl all.0, all.1)
     by false step rest = (all.0, rest step)
 
-all-changed : (P : Connection → Type 0) (n : ℕ) (f : Connection → Connection) → ((c : Connection) → P c → P (f c)) → (cs : List Connection)
+pub all-changed : (P : Connection → Type 0) (n : ℕ) (f : Connection → Connection) → ((c : Connection) → P c → P (f c)) → (cs : List Connection)
     → AllByRecursion P cs → AllByRecursion P (changed n f cs)
 all-changed P n f step cs all = all-found P n f cs (λ c is p. step c p) all
 
@@ -124,7 +124,7 @@ none-on lane (c ∷ cs) all = by (c.lane == lane) refl (none-on lane cs all.1)
     by true e rest = absurd (all.0 (agrees c.lane lane e))
     by false e rest = rest
 
-no-number : (o : Option Connection) → option_map (λ c. c.number) o ≡ None → o ≡ None
+pub no-number : (o : Option Connection) → option_map (λ c. c.number) o ≡ None → o ≡ None
 no-number None none = refl
 no-number (Some c) none = absurd (cc none)
 

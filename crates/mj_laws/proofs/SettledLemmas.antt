@@ -1,5 +1,5 @@
 -- Acts other than a message keep what is settled, and settling comes behind each message and each event.
-use Rattle.std.proofs.Common.{◌≡◌, ◌≢◌, ℕ, false, is_some, List, Option, None, refl, ap, subst, ◌∙◌, inl, inr}
+use Rattle.std.proofs.Common.{◌≡◌, ◌≢◌, ◌||◌, ℕ, Bool, true, false, is_some, List, [], ◌∷◌, Option, None, Some, refl, sym, ap, subst, ◌∙◌, inl, inr}
 use Rattle.std.specs.List.{AllByRecursion, list_any}
 use Rattle.std.specs.Str.{bytes_eq}
 use Rattle.std.proofs.lemmas.Slice.Eq.{bytes_eq-Decides}
@@ -24,10 +24,34 @@ use Rattle.mj_laws.specs.NobodyWaits.{BeginsSettled, IsSettled}
 apart : (a b : List ℕ) → bytes_eq a b ≡ false → a ≢ b
 apart a b differ same = cc ((bytes_eq-Decides a b).1 same, differ)
 
-settled-pair : (s : State) → pair s.waiting s.queue ≡ None → IsSettled s
+pub settled-pair : (s : State) → pair s.waiting s.queue ≡ None → IsSettled s
 settled-pair s none =
     let nowhere : list_any (has_waiter s.waiting) s.queue ≡ false = some-pair s.waiting s.queue ∙ ap (λ (o : Option Pair). is_some o) none in
     all-map _ _ (λ r free. all-map _ _ (λ w e. apart w.service r.service e) s.waiting (all-failed _ s.waiting free)) s.queue (all-failed (has_waiter s.waiting) s.queue nowhere)
+
+any-failed : {X : Type 0} (p : X → Bool) (xs : List X) → AllByRecursion (λ x. p x ≡ false) xs → list_any p xs ≡ false
+any-failed p [] all = refl
+any-failed p (x ∷ xs) all = ap (λ (b : Bool). b || list_any p xs) all.0 ∙ any-failed p xs all.1
+
+-- and where all is settled there is no pair
+pub pair-settled : (s : State) → IsSettled s → pair s.waiting s.queue ≡ None
+pair-settled s settled = none (pair s.waiting s.queue) (sym (some-pair s.waiting s.queue) ∙ nowhere)
+  where
+    differs : (a b : List ℕ) → a ≢ b → bytes_eq a b ≡ false
+    differs a b apart = by (bytes_eq a b) refl
+      where
+        by : (t : Bool) → bytes_eq a b ≡ t → t ≡ false
+        by true same = absurd (apart ((bytes_eq-Decides a b).0 same))
+        by false other = refl
+
+    nowhere : list_any (has_waiter s.waiting) s.queue ≡ false
+    nowhere =
+        any-failed (has_waiter s.waiting) s.queue
+        (all-map _ _ (λ r free. any-failed _ s.waiting (all-map _ _ (λ w other. differs w.service r.service other) s.waiting free)) s.queue settled)
+
+    none : (o : Option Pair) → is_some o ≡ false → o ≡ None
+    none None empty = refl
+    none (Some p) full = absurd (cc full)
 
 -- ---- acts
 
@@ -65,10 +89,10 @@ expiry : (n : ℕ) (s : State) → IsSettled s → Stays BeginsSettled IsSettled
 expiry n s settled =
     let both = begun (Expiry n) s tt ((λ q message is. cc is), (λ p is. cc is)) settled in record { steps = (both.0, tt); end = both.1 }
 
-abbrev AnyLane : State → ℕ → Type 0
+abbrev pub AnyLane : State → ℕ → Type 0
 AnyLane s lane = Unit {0}
 
-abbrev AnyState : State → Type 0
+abbrev pub AnyState : State → Type 0
 AnyState s = Unit {0}
 
 pub settled-walked : IsWalked AnyLane IsSettled AnyState BeginsSettled

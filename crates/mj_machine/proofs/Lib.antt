@@ -11,4 +11,5 @@ pub mod ByteLemmas
 pub mod StepLemmas
 pub mod StepWalk
 pub mod PieceLemmas
+pub mod StreamLemmas
 pub mod WorkedStepLemmas

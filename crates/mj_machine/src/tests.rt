@@ -1,6 +1,6 @@
 use super::{
-    Lengths, a_run_is_its_front_and_its_rest, a_worked_run_in_steps, items_of_a_cut_piece,
-    steps_are_the_run, the_worked_runs,
+    Lengths, a_run_is_its_front_and_its_rest, a_worked_run_in_steps, steps_are_the_run,
+    the_worked_runs,
 };
 use std::test::Fail;
 
@@ -26,5 +26,4 @@ fn laws_and_worked_runs_can_be_called() {
     a_worked_run_in_steps();
     a_run_is_its_front_and_its_rest();
     steps_are_the_run();
-    items_of_a_cut_piece();
 }
