@@ -7,6 +7,3 @@ pub use laws::{
     cuts_change_nothing, nobody_waits_for_a_queued_service, numbers_and_lanes,
     one_request_at_a_time, replies_reach_their_asker,
 };
-
-#[cfg(test)]
-mod tests;

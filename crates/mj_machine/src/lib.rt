@@ -14,6 +14,3 @@ pub use laws::{a_run_is_its_front_and_its_rest, a_worked_run_in_steps, steps_are
 pub use lengths::Lengths;
 pub use said::Said;
 pub use worked::the_worked_runs;
-
-#[cfg(test)]
-mod tests;

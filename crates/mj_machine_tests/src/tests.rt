@@ -1,4 +1,8 @@
-use super::{
+use mj_laws::{
+    cuts_change_nothing, nobody_waits_for_a_queued_service, numbers_and_lanes,
+    one_request_at_a_time, replies_reach_their_asker,
+};
+use mj_machine::{
     Lengths, a_run_is_its_front_and_its_rest, a_worked_run_in_steps, steps_are_the_run,
     the_worked_runs,
 };
@@ -26,4 +30,9 @@ fn laws_and_worked_runs_can_be_called() {
     a_worked_run_in_steps();
     a_run_is_its_front_and_its_rest();
     steps_are_the_run();
+    replies_reach_their_asker();
+    one_request_at_a_time();
+    nobody_waits_for_a_queued_service();
+    numbers_and_lanes();
+    cuts_change_nothing();
 }
