@@ -13,11 +13,12 @@ use Rattle.mj_machine.specs.Leaving.{connections_without, removed}
 use Rattle.mj_machine.specs.Sending.{is_slow, sent}
 use Rattle.mj_machine.specs.Pairing.{mark_set}
 use Rattle.mj_machine.specs.EventStep.{closes, delivered, opened}
+use Rattle.mj_machine.specs.Steps.{Cause}
 use Rattle.mj_machine.proofs.ConnectionLemmas.{Keeps, agrees, equal}
+use Rattle.mj_machine.proofs.StepWalk.{MayBegin}
 use Rattle.mj_laws.specs.Soundness.{IsApart, LanesAreApart, NumbersAreFresh, PiecesFit}
-use Rattle.mj_laws.proofs.ListLemmas.{all-append, all-filter, all-map}
-use Rattle.mj_laws.proofs.StepWalk.{Anybody, IsFree}
-use Rattle.mj_laws.proofs.Walk.{IsKept}
+use Rattle.mj_machine.proofs.ListLemmas.{all-append, all-filter, all-map}
+use Rattle.mj_machine.proofs.Walk.{IsKept}
 
 -- ---- lists of connections
 
@@ -33,7 +34,7 @@ all-found P n f (c ∷ cs) step all = by (c.number == n) step (λ s. all-found P
     by true step rest = (step c refl all.0, all.1)
     by false step rest = (all.0, rest step)
 
-all-changed : (P : Connection → Type 0) (n : ℕ) (f : Connection → Connection) → ((c : Connection) → P c → P (f c)) → (cs : List Connection)
+pub all-changed : (P : Connection → Type 0) (n : ℕ) (f : Connection → Connection) → ((c : Connection) → P c → P (f c)) → (cs : List Connection)
     → AllByRecursion P cs → AllByRecursion P (changed n f cs)
 all-changed P n f step cs all = all-found P n f cs (λ c is p. step c p) all
 
@@ -76,20 +77,20 @@ numbers-opened lane s fresh = (
   apart-added (λ c. c.number) s.connections _ fresh.1 (all-map _ _ (λ c below same. omega (arith, below, same)) s.connections fresh.0),
 )
 
-pub numbers-kept : (s0 : State) → IsKept Anybody (IsFree s0) Anybody s0 NumbersAreFresh
-numbers-kept s0 = record {
+pub numbers-kept : (cause : Cause) (s0 : State) → IsKept cause s0 NumbersAreFresh
+numbers-kept cause s0 = record {
   keeps_marked = λ q s p. numbers-changed q (mark_set s.now) (λ c. refl) s p;
   keeps_sent = λ q octets c s is slow p. numbers-changed q (sent s.now octets) (λ d. refl) s p;
   keeps_reported = λ q s p. numbers-changed q delivered (λ c. refl) s p;
   keeps_removed = λ q s p. numbers-without q s p;
   keeps_gone = λ q s p. numbers-changed q (with_role Gone) (λ c. refl) s p;
-  keeps_expired = λ q s ends p. numbers-changed q (with_role Fresh) (λ c. refl) s p;
+  keeps_expired = λ q s is p. numbers-changed q (with_role Fresh) (λ c. refl) s p;
   keeps_asking = λ q c is plain p. numbers-changed q (with_role _) (λ d. refl) s0 p;
-  keeps_queued = λ q c request is origin p. p;
-  keeps_registered = λ q c voice service is fresh p. numbers-changed q (with_role _) (λ d. refl) s0 p;
-  keeps_rested = λ q service s may works p. p;
-  keeps_given = λ p is all. all;
-  keeps_opened = λ lane free p. numbers-opened lane s0 p;
+  keeps_queued = λ q c message request told is origin p. p;
+  keeps_registered = λ q c message voice service told is fresh p. numbers-changed q (with_role _) (λ d. refl) s0 p;
+  keeps_rested = λ q service s final works p. p;
+  keeps_given = λ p by is all. all;
+  keeps_opened = λ lane is p. numbers-opened lane s0 p;
   keeps_time = λ ms s p. p;
 }
 
@@ -98,6 +99,9 @@ numbers-kept s0 = record {
 lanes-changed : (n : ℕ) (f : Connection → Connection) → ((c : Connection) → (f c).lane ≡ c.lane) → (s : State) → LanesAreApart s
     → LanesAreApart (record s { connections = changed n f s.connections })
 lanes-changed n f keeps s apart = apart-changed (λ c. c.lane) n f keeps s.connections apart
+
+abbrev pub IsFree : State → ℕ → Type 0
+IsFree s lane = number_on lane s.connections ≡ None
 
 -- nobody is on this lane
 on-none : (lane : ℕ) (cs : List Connection) → connection_on lane cs ≡ None → AllByRecursion (λ d. d.lane ≢ lane) cs
@@ -120,7 +124,7 @@ none-on lane (c ∷ cs) all = by (c.lane == lane) refl (none-on lane cs all.1)
     by true e rest = absurd (all.0 (agrees c.lane lane e))
     by false e rest = rest
 
-no-number : (o : Option Connection) → option_map (λ c. c.number) o ≡ None → o ≡ None
+pub no-number : (o : Option Connection) → option_map (λ c. c.number) o ≡ None → o ≡ None
 no-number None none = refl
 no-number (Some c) none = absurd (cc none)
 
@@ -161,20 +165,20 @@ pub lane-vacated : (s : State) → LanesAreApart s → (lane : ℕ) → IsFree (
 lane-vacated s apart lane =
     ap (λ (o : Option Connection). option_map (λ c. c.number) o) (none-on lane (closes (number_on lane s.connections) s).connections (vacated s (connection_on lane s.connections) lane refl apart))
 
-pub lanes-kept : (s0 : State) → IsKept Anybody (IsFree s0) Anybody s0 LanesAreApart
-lanes-kept s0 = record {
+pub lanes-kept : (cause : Cause) (s0 : State) → MayBegin IsFree cause s0 → IsKept cause s0 LanesAreApart
+lanes-kept cause s0 free = record {
   keeps_marked = λ q s p. lanes-changed q (mark_set s.now) (λ c. refl) s p;
   keeps_sent = λ q octets c s is slow p. lanes-changed q (sent s.now octets) (λ d. refl) s p;
   keeps_reported = λ q s p. lanes-changed q delivered (λ c. refl) s p;
   keeps_removed = λ q s p. apart-filter (λ c. c.lane) _ s.connections p;
   keeps_gone = λ q s p. lanes-changed q (with_role Gone) (λ c. refl) s p;
-  keeps_expired = λ q s ends p. lanes-changed q (with_role Fresh) (λ c. refl) s p;
+  keeps_expired = λ q s is p. lanes-changed q (with_role Fresh) (λ c. refl) s p;
   keeps_asking = λ q c is plain p. lanes-changed q (with_role _) (λ d. refl) s0 p;
-  keeps_queued = λ q c request is origin p. p;
-  keeps_registered = λ q c voice service is fresh p. lanes-changed q (with_role _) (λ d. refl) s0 p;
-  keeps_rested = λ q service s may works p. p;
-  keeps_given = λ p is all. all;
-  keeps_opened = λ lane free p. apart-added (λ c. c.lane) s0.connections _ p (free-lane lane s0 free);
+  keeps_queued = λ q c message request told is origin p. p;
+  keeps_registered = λ q c message voice service told is fresh p. lanes-changed q (with_role _) (λ d. refl) s0 p;
+  keeps_rested = λ q service s final works p. p;
+  keeps_given = λ p by is all. all;
+  keeps_opened = λ lane is p. apart-added (λ c. c.lane) s0.connections _ p (free-lane lane s0 (free lane is));
   keeps_time = λ ms s p. p;
 }
 
@@ -231,19 +235,19 @@ module _ (limits : Limits) where
           let same : c ≡ d = same-some c d (sym is ∙ found) in
           fits-sent limits s.now octets d (subst (λ (x : Connection). is_slow limits x octets ≡ false) same (subst (λ (x : Limits). is_slow x c octets ≡ false) p.0 slow))
 
-  pub pieces-kept : (s0 : State) → IsKept Anybody (IsFree s0) Anybody s0 (PiecesFit limits)
-  pieces-kept s0 = record {
+  pub pieces-kept : (cause : Cause) (s0 : State) → IsKept cause s0 (PiecesFit limits)
+  pieces-kept cause s0 = record {
     keeps_marked = λ q s p. pieces-same q (mark_set s.now) (λ c. refl) s p;
     keeps_sent = λ q octets c s is slow p. pieces-sent q octets c s is slow p;
     keeps_reported = λ q s p. (p.0, all-changed (Fits limits) q delivered (λ c fits. fits-delivered limits c fits) s.connections p.1);
     keeps_removed = λ q s p. (p.0, all-filter (Fits limits) _ s.connections p.1);
     keeps_gone = λ q s p. pieces-same q (with_role Gone) (λ c. refl) s p;
-    keeps_expired = λ q s ends p. pieces-same q (with_role Fresh) (λ c. refl) s p;
+    keeps_expired = λ q s is p. pieces-same q (with_role Fresh) (λ c. refl) s p;
     keeps_asking = λ q c is plain p. pieces-same q (with_role _) (λ d. refl) s0 p;
-    keeps_queued = λ q c request is origin p. p;
-    keeps_registered = λ q c voice service is fresh p. pieces-same q (with_role _) (λ d. refl) s0 p;
-    keeps_rested = λ q service s may works p. p;
-    keeps_given = λ p is all. all;
-    keeps_opened = λ lane free p. (p.0, all-append (Fits limits) s0.connections _ p.1 ((omega arith, omega arith), tt));
+    keeps_queued = λ q c message request told is origin p. p;
+    keeps_registered = λ q c message voice service told is fresh p. pieces-same q (with_role _) (λ d. refl) s0 p;
+    keeps_rested = λ q service s final works p. p;
+    keeps_given = λ p by is all. all;
+    keeps_opened = λ lane is p. (p.0, all-append (Fits limits) s0.connections _ p.1 ((omega arith, omega arith), tt));
     keeps_time = λ ms s p. p;
   }

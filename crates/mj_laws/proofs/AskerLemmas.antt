@@ -16,14 +16,14 @@ use Rattle.mj_machine.specs.Sending.{sent}
 use Rattle.mj_machine.specs.Pairing.{mark_set}
 use Rattle.mj_machine.specs.MessageStep.{enqueues, registration}
 use Rattle.mj_machine.specs.EventStep.{delivered}
+use Rattle.mj_machine.specs.Steps.{Cause}
 use Rattle.mj_machine.proofs.ConnectionLemmas.{changed-other, cut_off-other}
 use Rattle.mj_laws.specs.Soundness.{AskersAreThere, IsOfClient}
 use Rattle.mj_laws.proofs.CountLemmas.{all-first, passed-apart}
-use Rattle.mj_laws.proofs.ListLemmas.{all-append, all-map, all-passed}
-use Rattle.mj_laws.proofs.LookLemmas.{heard-client, look-added, look-changed, look-same, spoken-client}
-use Rattle.mj_laws.proofs.StepWalk.{Anybody, IsFree}
+use Rattle.mj_machine.proofs.ListLemmas.{all-append, all-map, all-passed}
+use Rattle.mj_machine.proofs.LookLemmas.{heard-client, look-added, look-changed, look-same, spoken-client}
 use Rattle.mj_laws.proofs.WorkerLemmas.{is-pair}
-use Rattle.mj_laws.proofs.Walk.{IsKept, given_over}
+use Rattle.mj_machine.proofs.Walk.{IsKept, given_over}
 
 abbrev AllThere : List Connection → List Request → Type 0
 AllThere cs queue = AllByRecursion (λ r. IsOfClient cs r.origin) queue
@@ -86,8 +86,8 @@ there-left : (q : ℕ) (role : Role) (s : State) → AskersAreThere s → Askers
 there-left q role s all =
     there-without q s.connections (becomes q role s).connections s.queue (λ n apart. changed-other q n (with_role role) (λ c. refl) apart s.connections) all
 
-pub askers-kept : (s0 : State) → IsKept Anybody (IsFree s0) Anybody s0 AskersAreThere
-askers-kept s0 = record {
+pub askers-kept : (cause : Cause) (s0 : State) → IsKept cause s0 AskersAreThere
+askers-kept cause s0 = record {
   keeps_marked = λ q s p. there-same s.connections _ s.queue
       (same-asking s.connections _ (λ n. look-changed is_asking n q (mark_set s.now) (λ c. refl) (λ c. heard-client s.now c.role) s.connections)) p;
   keeps_sent = λ q octets c s is slow p. there-same s.connections _ s.queue
@@ -96,13 +96,13 @@ askers-kept s0 = record {
       (same-asking s.connections _ (λ n. look-changed is_asking n q delivered (λ c. refl) (λ c. refl) s.connections)) p;
   keeps_removed = λ q s p. there-without q s.connections (removed q s).connections s.queue (λ n apart. cut_off-other q n apart s.connections) p;
   keeps_gone = λ q s p. there-left q Gone s p;
-  keeps_expired = λ q s ends p. there-left q Fresh s p;
+  keeps_expired = λ q s is p. there-left q Fresh s p;
   keeps_asking = λ q c is plain p. there-same s0.connections _ s0.queue (asking-given q c s0.connections is) p;
-  keeps_queued = λ q c request is origin p. there-queued q c request s0 is origin p;
-  keeps_registered = λ q c voice service is fresh p. there-same s0.connections _ s0.queue
+  keeps_queued = λ q c message request told is origin p. there-queued q c request s0 is origin p;
+  keeps_registered = λ q c message voice service told is fresh p. there-same s0.connections _ s0.queue
       (asking-fresh q (Worker (registration voice service s0)) c s0.connections is fresh) p;
-  keeps_rested = λ q service s may works p. p;
-  keeps_given = λ p is all. there-given s0 p is all;
-  keeps_opened = λ lane free p. there-same s0.connections _ s0.queue (same-asking s0.connections _ (λ n. look-added is_asking n _ refl s0.connections)) p;
+  keeps_rested = λ q service s final works p. p;
+  keeps_given = λ p by is all. there-given s0 p is all;
+  keeps_opened = λ lane is p. there-same s0.connections _ s0.queue (same-asking s0.connections _ (λ n. look-added is_asking n _ refl s0.connections)) p;
   keeps_time = λ ms s p. p;
 }

@@ -4,7 +4,7 @@ use Rattle.std.specs.List.{AllByRecursion, filter}
 use Rattle.mj_queue.specs.PairLaw.{IsFirst}
 use Rattle.mj_machine.proofs.ConnectionLemmas.{agrees, differs, equal}
 use Rattle.mj_laws.specs.Soundness.{one_if, times}
-use Rattle.mj_laws.proofs.ListLemmas.{all-append, all-front, all-rest}
+use Rattle.mj_machine.proofs.ListLemmas.{all-append, all-front, all-rest}
 
 pub passed-apart : (a b : ℕ) → not (a == b) ≡ true → a ≢ b
 passed-apart a b passed same = by (a == b) refl passed

@@ -1,28 +1,25 @@
 -- A lease ends only once it has passed.
-use Rattle.std.proofs.Common.{◌≡◌, ◌≢◌, ◌+◌, ◌==◌, ℕ, zero, suc, Bool, true, false, cond, List, [], ◌∷◌, length, Option, None, Some, refl, sym, ap, subst, ◌∙◌}
+use Rattle.std.proofs.Common.{◌≡◌, ◌≢◌, ◌+◌, ◌==◌, ℕ, Bool, true, false, cond, List, [], ◌∷◌, Option, Some, refl, sym, ap, subst, ◌∙◌}
 use Rattle.std.specs.List.{AllByRecursion, filter}
 use Rattle.mj_base.specs.declared.event.Event.{Event}
 use Rattle.mj_base.specs.declared.limits.Limits.{Limits}
-use Rattle.mj_wire.specs.declared.item.WireItem.{WireItem}
-use Rattle.mj_wire.specs.declared.item.WireItem.TheVariants as items
-use Rattle.mj_queue.specs.Settling.{Pair, pair}
 use Rattle.mj_machine.specs.declared.connection.Connection.{Connection}
 use Rattle.mj_machine.specs.declared.connection.Role.{Role}
 use Rattle.mj_machine.specs.declared.connection.Role.TheVariants.{Client, Fresh, Gone, Worker}
 use Rattle.mj_machine.specs.declared.held.Held.{Held}
-use Rattle.mj_machine.specs.MachineState.{Machine, State, start}
-use Rattle.mj_machine.specs.Connections.{connection_of, number_on, with_role}
-use Rattle.mj_machine.specs.Acts.{Done, each, ◌then◌}
+use Rattle.mj_machine.specs.MachineState.{State, start}
+use Rattle.mj_machine.specs.Connections.{connection_of, with_role}
+use Rattle.mj_machine.specs.Acts.{each}
 use Rattle.mj_machine.specs.Leaving.{held_without}
-use Rattle.mj_machine.specs.TickStep.{at_moment, deadline_of, due_numbers, expires, has_passed, is_due, is_holding, numbers, silent_numbers}
-use Rattle.mj_machine.specs.EventStep.{Closes, Gains, Happening, Opens, Reports, Stops, Ticks, happening, state_after}
-use Rattle.mj_machine.specs.Steps.{Expiry, Item, Step, Time, beat_step, beat_steps, effect_steps, event_steps, expiry_step, gain_steps, happening_steps, item_steps, lease_steps, pair_step, run_steps, settle_steps, step, turn_steps}
+use Rattle.mj_machine.specs.TickStep.{deadline_of, due_numbers, expires, has_passed, is_due, is_holding, numbers}
+use Rattle.mj_machine.specs.Steps.{Expiry, Step, expiry_step, lease_steps, run_steps}
 use Rattle.mj_machine.proofs.ConnectionLemmas.{changed-other, differs, equal, found-number, holding-without-other}
 use Rattle.mj_laws.specs.Requests.{LeaseHasPassed}
-use Rattle.mj_laws.specs.Soundness.{IsApart, IsSound}
-use Rattle.mj_laws.proofs.ListLemmas.{all-append, all-map, all-passed}
-use Rattle.mj_laws.proofs.ApartLemmas.{apart-filter}
-use Rattle.mj_laws.proofs.SoundLemmas.{sound-after, sound-start}
+use Rattle.mj_laws.specs.Soundness.{IsApart, NumbersAreFresh}
+use Rattle.mj_machine.proofs.ListLemmas.{all-map, all-passed}
+use Rattle.mj_machine.proofs.StepWalk.{IsPlain, IsWalked, stays-run, walked-kept}
+use Rattle.mj_laws.proofs.ApartLemmas.{apart-filter, numbers-kept}
+use Rattle.mj_laws.proofs.SoundLemmas.{sound-start}
 
 -- ---- who is due
 
@@ -85,38 +82,6 @@ due-stays n q s apart due =
 abbrev InTime : List Step → Type 0
 InTime steps = AllByRecursion LeaseHasPassed steps
 
-in-then : (d : Done Step) (f : State → Done Step) → InTime d.1 → ((s : State) → InTime (f s).1) → InTime (d then f).1
-in-then d f first second = all-append LeaseHasPassed d.1 (f d.0).1 first (second d.0)
-
-in-each : {X : Type 0} (f : X → State → Done Step) → ((x : X) (s : State) → InTime (f x s).1) → (xs : List X) (s : State) → InTime (each f xs s).1
-in-each f one [] s = tt
-in-each f one (x ∷ xs) s = in-then (f x s) (each f xs) (one x s) (λ t. in-each f one xs t)
-
-in-pair : (o : Option Pair) (s : State) → InTime (pair_step o s).1
-in-pair None s = tt
-in-pair (Some p) s = ((λ n is. absurd (cc is)), tt)
-
-in-turns : (n : ℕ) (s : State) → InTime (turn_steps n s).1
-in-turns zero s = tt
-in-turns (suc n) s = in-then (pair_step (pair s.waiting s.queue) s) (turn_steps n) (in-pair (pair s.waiting s.queue) s) (λ t. in-turns n t)
-
-in-settling : (s : State) → InTime (settle_steps s).1
-unfolding settle_steps
-in-settling s = in-turns (length s.waiting) s
-
-in-act : (n : ℕ) (item : WireItem) (s : State) → InTime (step (Item n item) s).1
-in-act n item s = ((λ m is. absurd (cc is)), tt)
-
-in-item : (n : ℕ) (item : WireItem) (s : State) → InTime (item_steps n item s).1
-in-item n items.Accepted s = in-act n items.Accepted s
-in-item n (items.Ready kind) s = in-act n (items.Ready kind) s
-in-item n (items.Message message) s = in-then (step (Item n (items.Message message)) s) settle_steps (in-act n (items.Message message) s) in-settling
-in-item n (items.Ended reason at) s = in-act n (items.Ended reason at) s
-
-in-gains : (o : Option ℕ) (gain : List WireItem) (s : State) → InTime (gain_steps o gain s).1
-in-gains None gain s = tt
-in-gains (Some n) gain s = in-each (item_steps n) (λ item t. in-item n item t) gain s
-
 same-expiry : (n m : ℕ) → Expiry n ≡ Expiry m → n ≡ m
 same-expiry n m same = cc same
 
@@ -134,32 +99,23 @@ in-expiries (n ∷ ns) s apart due = (
 in-leases : (s : State) → IsApart (λ c. c.number) s.connections → InTime (lease_steps s).1
 in-leases s apart = in-expiries (due_numbers s) s (distinct-numbers (filter (is_due s) s.connections) (apart-filter (λ c. c.number) (is_due s) s.connections apart)) (all-due s apart)
 
-in-beats : (s : State) → InTime (beat_steps s).1
-in-beats s = in-each beat_step (λ n t. ((λ m is. absurd (cc is)), tt)) (silent_numbers s) s
-
-in-ticks : (ms : ℕ) (s : State) → IsApart (λ c. c.number) s.connections → InTime (effect_steps (Ticks ms) s).1
-in-ticks ms s apart =
-    in-then (step (Time ms) s then lease_steps) beat_steps
-    (all-append LeaseHasPassed (step (Time ms) s).1 (lease_steps (at_moment ms s)).1 ((λ n is. absurd (cc is)), tt) (in-leases (at_moment ms s) apart)) in-beats
-
-in-effect : (h : Happening) (s : State) → IsApart (λ c. c.number) s.connections → InTime (effect_steps h s).1
-in-effect (Opens lane) s apart = ((λ n is. absurd (cc is)), ((λ n is. absurd (cc is)), tt))
-in-effect (Gains lane gain) s apart = in-gains (number_on lane s.connections) gain s
-in-effect (Reports lane) s apart = ((λ n is. absurd (cc is)), tt)
-in-effect (Closes lane) s apart = ((λ n is. absurd (cc is)), tt)
-in-effect (Ticks ms) s apart = in-ticks ms s apart
-in-effect Stops s apart = tt
-
-in-happens : (h : Happening) (s : State) → IsApart (λ c. c.number) s.connections → InTime (happening_steps h s).1
-in-happens h s apart = in-then (effect_steps h s) settle_steps (in-effect h s apart) in-settling
-
 -- ---- runs
 
-in-run : (limits : Limits) (m : Machine) (events : List Event) → IsSound limits m.state → InTime (run_steps limits m events)
-in-run limits m [] sound = tt
-in-run limits m (event ∷ events) sound =
-    all-append LeaseHasPassed (event_steps limits m event) (run_steps limits (state_after limits m event) events) (in-happens (happening limits m event) m.state sound.numbers.1)
-    (in-run limits (state_after limits m event) events (sound-after limits m event sound))
+abbrev AnyLane : State → ℕ → Type 0
+AnyLane s lane = Unit {0}
+
+lease-walked : IsWalked AnyLane NumbersAreFresh NumbersAreFresh LeaseHasPassed
+lease-walked =
+    let kept = walked-kept AnyLane NumbersAreFresh (λ cause s free. numbers-kept cause s) in record {
+      plain = λ cause s plain p. ((λ n is. absurd (subst IsPlain is plain)), (kept.plain cause s plain p).1);
+      opens = λ lane s free p. ((λ n is. absurd (cc is)), (kept.opens lane s free p).1);
+      leases = λ s p. (in-leases s p.1, (kept.leases s p).1);
+      message = λ n message s p. ((λ m is. absurd (cc is)), (kept.message n message s p).1);
+      pairs = λ q s is p. ((λ n other. absurd (cc other)), (kept.pairs q s is p).1);
+      eases = λ s p. p;
+      settled = λ s none p. p;
+    }
 
 pub leases_end_in_time : (limits : Limits) (events : List Event) → AllByRecursion LeaseHasPassed (run_steps limits (start limits) events)
-leases_end_in_time limits events = in-run limits (start limits) events (sound-start limits)
+leases_end_in_time limits events =
+    (stays-run AnyLane NumbersAreFresh NumbersAreFresh LeaseHasPassed lease-walked (λ s p lane. tt) limits (start limits) events (sound-start limits).numbers).0

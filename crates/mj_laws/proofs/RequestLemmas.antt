@@ -6,56 +6,53 @@ use Rattle.mj_base.specs.declared.event.Event.{Event}
 use Rattle.mj_base.specs.declared.event.Out.TheVariants.{Piece}
 use Rattle.mj_base.specs.declared.limits.Limits.{Limits}
 use Rattle.mj_queue.specs.Settling.{Pair, pair, serves}
+use Rattle.mj_queue.specs.declared.request.Request.{Request}
 use Rattle.mj_queue.specs.declared.worker.Waiter.{Waiter}
 use Rattle.mj_machine.specs.declared.connection.Connection.{Connection}
 use Rattle.mj_machine.specs.declared.connection.Role.{Role}
 use Rattle.mj_machine.specs.declared.connection.Role.TheVariants.{Client, Fresh, Gone, Worker}
 use Rattle.mj_machine.specs.declared.connection.Voice.{Voice}
-use Rattle.mj_machine.specs.declared.held.Held.{Held}
 use Rattle.mj_machine.specs.MachineState.{State, start}
-use Rattle.mj_machine.specs.Connections.{connection_of, voice_of, with_role}
+use Rattle.mj_machine.specs.Connections.{connection_of, service_in, service_of, voice_of, with_role}
 use Rattle.mj_machine.specs.Leaving.{becomes, goes, held_without, left, removed}
 use Rattle.mj_machine.specs.Sending.{is_slow, sends_if, sends_to, sent}
-use Rattle.mj_machine.specs.Pairing.{handed, held_by_pair, mark_set, request_text, waits}
+use Rattle.mj_machine.specs.Pairing.{bodiless, handed, held_by_pair, mark_set, request_text, waits}
 use Rattle.mj_machine.specs.TickStep.{expires}
 use Rattle.mj_machine.specs.EventStep.{delivered, opened}
-use Rattle.mj_machine.specs.MessageStep.{registration, said_in}
+use Rattle.mj_machine.specs.MessageStep.{held_by, registration, said_in}
 use Rattle.mj_machine.specs.MachineRun.{run_state}
 use Rattle.mj_machine.specs.Steps.{Cause, Expiry, IsAllowed, IsChain, IsStep, Step, acts, run_steps, step_of}
 use Rattle.mj_machine.proofs.ConnectionLemmas.{changed-other, cut_off-other, cut_off-same, equal}
-use Rattle.mj_machine.proofs.StepLemmas.{steps-lead}
-use Rattle.mj_laws.specs.Requests.{IsFinalReply, IsFreeing, IsRequestTo, OneFrees, Replies, has_left}
-use Rattle.mj_laws.specs.Soundness.{WorkersStandOnce, holdings, one_if, places, service_in, service_of}
-use Rattle.mj_laws.proofs.CountLemmas.{times-append, times-first, times-without-other}
-use Rattle.mj_laws.proofs.ListLemmas.{all-front, all-map, all-rest}
-use Rattle.mj_laws.proofs.LookLemmas.{heard-gone, left-given, left-idle, look-changed, spoken-gone}
+use Rattle.mj_machine.proofs.ListLemmas.{all-front, all-map, all-rest}
+use Rattle.mj_machine.proofs.LookLemmas.{look-changed}
+use Rattle.mj_machine.proofs.StepLemmas.{step-is, steps-lead}
+use Rattle.mj_machine.proofs.Walk.{Finishes, IsKept, IsNoServer, given_over, kept-acts, registered}
+use Rattle.mj_laws.specs.Requests.{IsFinalReply, IsFreeing, IsRequestTo, OneFrees, has_left}
+use Rattle.mj_laws.specs.Soundness.{ServicesAgree, WorkersStandOnce, holdings, one_if, places}
+use Rattle.mj_laws.proofs.CountLemmas.{times-first}
+use Rattle.mj_laws.proofs.HeldLemmas.{held-append, held-counts, held-last, held-without-other, replies-of}
+use Rattle.mj_laws.proofs.LeftLemmas.{heard-gone, left-given, left-idle, spoken-gone}
 use Rattle.mj_laws.proofs.SoundLemmas.{stays-sound}
-use Rattle.mj_laws.proofs.Walk.{IsKept, IsNoServer, given_over, registered, walk-acts}
 use Rattle.mj_laws.proofs.WorkerLemmas.{is-pair, no-server}
 
-abbrev Holds : ℕ → State → Type 0
-Holds n s = 1 ≤ holdings n s.held
+-- n holds this request
+abbrev Holds : ℕ → Request → State → Type 0
+Holds n request s = held_by n s.held ≡ Some request
 
 abbrev HasLeft : ℕ → State → Type 0
 HasLeft n s = has_left (connection_of n s.connections) ≡ true
 
-abbrev AnyLane : ℕ → Type 0
-AnyLane lane = Unit {0}
-
 -- ---- one step
 
 -- n holds on, or has left, or has given its final reply in this act, or its lease ends by it
-module _ (n : ℕ) (cause : Cause) (s0 : State) (once : WorkersStandOnce s0) (holds : Holds n s0) where
-  abbrev May : ℕ → Type 0
-  May q = IsFinalReply q (step_of cause s0)
-
-  abbrev Ends : ℕ → Type 0
-  Ends q = cause ≡ Expiry q
+module _ (n : ℕ) (request : Request) (cause : Cause) (s0 : State) (once : WorkersStandOnce s0) (agree : ServicesAgree s0) (holds : Holds n request s0) where
+  abbrev Answered : Type 0
+  Answered = IsFinalReply n request (step_of cause s0)
 
   abbrev OrFreed : State → Type 0
-  OrFreed s = Holds n s ⊎ (HasLeft n s ⊎ (May n ⊎ Ends n))
+  OrFreed s = Holds n request s ⊎ (HasLeft n s ⊎ (Answered ⊎ (cause ≡ Expiry n)))
 
-  goes-on : (s t : State) → (Holds n s → Holds n t) → (HasLeft n s → HasLeft n t) → OrFreed s → OrFreed t
+  goes-on : (s t : State) → (Holds n request s → Holds n request t) → (HasLeft n s → HasLeft n t) → OrFreed s → OrFreed t
   goes-on s t on gone p =
       elim p [ inl held ↦ inl (on held) | inr freed ↦ elim freed [ inl away ↦ inr (inl (gone away)) | inr by_this ↦ inr (inr by_this) ] ]
 
@@ -64,15 +61,16 @@ module _ (n : ℕ) (cause : Cause) (s0 : State) (once : WorkersStandOnce s0) (ho
   same-places s cs gone p = goes-on s (record s { connections = cs }) (λ held. held) gone p
 
   -- the others hold on when q holds nothing any more
-  others-hold : (q : ℕ) → n ≢ q → (held : List Held) → 1 ≤ holdings n held → 1 ≤ holdings n (held_without q held)
-  others-hold q apart held h = let same = times-without-other (λ (x : Held). x.worker) n q apart held in omega (arith, same, h)
+  others-hold : (q : ℕ) → n ≢ q → (s : State) → Holds n request s → held_by n (held_without q s.held) ≡ Some request
+  others-hold q apart s held = held-without-other n q apart s.held ∙ held
 
   -- whoever holds a request is a worker
   no-idle : service_of (connection_of n s0.connections) ≡ None → ⊥
   no-idle idle =
       let now = once n in
       let none = ap places idle in
-      omega (arith, now, none, holds)
+      let some = held-counts n s0.held request holds in
+      omega (arith, now, none, some)
 
   no-leaver : HasLeft n s0 → ⊥
   no-leaver gone = no-idle (left-idle (connection_of n s0.connections) gone)
@@ -84,12 +82,12 @@ module _ (n : ℕ) (cause : Cause) (s0 : State) (once : WorkersStandOnce s0) (ho
   freed-removed q s p =
       elim (eqb_tells n q) [
         | inl agree ↦ inr (inl (subst (λ (x : ℕ). has_left (connection_of x (removed q s).connections) ≡ true) (sym agree.1) (ap has_left (cut_off-same q s.connections))))
-        | inr other ↦ goes-on s (removed q s) (others-hold q other.1 s.held) (λ gone. ap has_left (cut_off-other q n other.1 s.connections) ∙ gone) p
+        | inr other ↦ goes-on s (removed q s) (others-hold q other.1 s) (λ gone. ap has_left (cut_off-other q n other.1 s.connections) ∙ gone) p
       ]
 
   freed-others : (q : ℕ) (role : Role) (s : State) → n ≢ q → OrFreed s → OrFreed (becomes q role (left q s))
   freed-others q role s apart p =
-      goes-on s (becomes q role (left q s)) (others-hold q apart s.held) (λ gone. ap has_left (changed-other q n (with_role role) (λ c. refl) apart s.connections) ∙ gone) p
+      goes-on s (becomes q role (left q s)) (others-hold q apart s) (λ gone. ap has_left (changed-other q n (with_role role) (λ c. refl) apart s.connections) ∙ gone) p
 
   freed-gone : (q : ℕ) (s : State) → OrFreed s → OrFreed (goes q s)
   freed-gone q s p =
@@ -98,9 +96,9 @@ module _ (n : ℕ) (cause : Cause) (s0 : State) (once : WorkersStandOnce s0) (ho
         | inr other ↦ freed-others q Gone s other.1 p
       ]
 
-  freed-expired : (q : ℕ) (s : State) → Ends q → OrFreed s → OrFreed (expires q s)
+  freed-expired : (q : ℕ) (s : State) → cause ≡ Expiry q → OrFreed s → OrFreed (expires q s)
   freed-expired q s ends p =
-      elim (eqb_tells n q) [ inl agree ↦ inr (inr (inr (subst Ends (sym agree.1) ends))) | inr other ↦ freed-others q Fresh s other.1 p ]
+      elim (eqb_tells n q) [ inl same ↦ inr (inr (inr (ends ∙ ap (λ (x : ℕ). Expiry x) (sym same.1)))) | inr other ↦ freed-others q Fresh s other.1 p ]
 
   freed-asking : (q : ℕ) (c : Connection) → connection_of q s0.connections ≡ Some c → IsNoServer c.role → OrFreed s0 → OrFreed (becomes q Client s0)
   freed-asking q c is plain p =
@@ -114,22 +112,35 @@ module _ (n : ℕ) (cause : Cause) (s0 : State) (once : WorkersStandOnce s0) (ho
   freed-registered q c voice service is fresh p =
       elim (eqb_tells n q) [
         | inl agree ↦ absurd (no-idle (idle-at q c agree.1 is (ap service_in fresh)))
-        | inr other ↦ goes-on s0 (registered q voice service s0) (others-hold q other.1 s0.held)
+        | inr other ↦ goes-on s0 (registered q voice service s0) (others-hold q other.1 s0)
             (λ gone. ap has_left (changed-other q n (with_role (Worker (registration voice service s0))) (λ d. refl) other.1 s0.connections) ∙ gone) p
       ]
 
-  freed-rested : (q : ℕ) (service : List ℕ) (s : State) → May q → OrFreed s → OrFreed (waits q service s)
-  freed-rested q service s may p =
+  same-some : (x y : Request) → Some x ≡ Some y → x ≡ y
+  same-some x y e = cc e
+
+  answered : (q : ℕ) → n ≡ q → Finishes cause s0 q → Answered
+  unfolding replies-of
+  answered q same final =
+      subst (λ (x : ℕ). IsFinalReply x request (step_of cause s0)) (sym same)
+      (record {
+        message = final.message;
+        cause = final.cause_is;
+        says = replies-of true q (said_in final.message) s0 agree final.reply;
+        answers = same-some final.reply.request request (sym final.reply.holds ∙ ap (λ (x : ℕ). held_by x s0.held) (sym same) ∙ holds);
+      })
+
+  freed-rested : (q : ℕ) (service : List ℕ) (s : State) → Finishes cause s0 q → OrFreed s → OrFreed (waits q service s)
+  freed-rested q service s final p =
       elim (eqb_tells n q) [
-        | inl agree ↦ inr (inr (inl (subst May (sym agree.1) may)))
-        | inr other ↦ goes-on s (waits q service s) (others-hold q other.1 s.held) (λ gone. gone) p
+        | inl same ↦ inr (inr (inl (answered q same.1 final)))
+        | inr other ↦ goes-on s (waits q service s) (others-hold q other.1 s) (λ gone. gone) p
       ]
 
   freed-given : (q : Pair) → OrFreed s0 → OrFreed (given_over q s0)
-  freed-given q p =
-      goes-on s0 (given_over q s0) (λ held. let more = times-append (λ (x : Held). x.worker == n) s0.held (held_by_pair q ∷ []) in omega (arith, more, held)) (λ gone. gone) p
+  freed-given q p = goes-on s0 (given_over q s0) (λ held. held-append n s0.held (held_by_pair q ∷ []) request held) (λ gone. gone) p
 
-  freed-kept : IsKept May AnyLane Ends s0 OrFreed
+  freed-kept : IsKept cause s0 OrFreed
   freed-kept = record {
     keeps_marked = λ q s p. same-places s _ (λ gone. look-changed has_left n q (mark_set s.now) (λ c. refl) (λ c. heard-gone s.now c.role) s.connections ∙ gone) p;
     keeps_sent = λ q octets c s is slow p. same-places s _
@@ -139,31 +150,22 @@ module _ (n : ℕ) (cause : Cause) (s0 : State) (once : WorkersStandOnce s0) (ho
     keeps_gone = λ q s p. freed-gone q s p;
     keeps_expired = λ q s ends p. freed-expired q s ends p;
     keeps_asking = λ q c is plain p. freed-asking q c is plain p;
-    keeps_queued = λ q c request is origin p. p;
-    keeps_registered = λ q c voice service is fresh p. freed-registered q c voice service is fresh p;
-    keeps_rested = λ q service s may works p. freed-rested q service s may p;
-    keeps_given = λ q is p. freed-given q p;
-    keeps_opened = λ lane free p. goes-on s0 (opened lane s0) (λ held. held) (λ gone. absurd (no-leaver gone)) p;
+    keeps_queued = λ q c message asked told is origin p. p;
+    keeps_registered = λ q c message voice service told is fresh p. freed-registered q c voice service is fresh p;
+    keeps_rested = λ q service s final works p. freed-rested q service s final p;
+    keeps_given = λ q by is p. freed-given q p;
+    keeps_opened = λ lane is p. goes-on s0 (opened lane s0) (λ held. held) (λ gone. absurd (no-leaver gone)) p;
     keeps_time = λ ms s p. p;
   }
 
-  freed-acts : IsAllowed cause s0 → OrFreed (acts cause s0).0
-  freed-acts allowed =
-      walk-acts May AnyLane Ends s0 OrFreed freed-kept cause allowed (λ q message is says. record { message = message; cause = is; says = says }) (λ lane is. tt) (λ q is. is)
-      (inl holds)
-
-step-holds : (n : ℕ) (s : State) (t : Step) → IsStep s t → WorkersStandOnce s → Holds n s → IsFreeing n t ⊎ Holds n t.after
-step-holds n s t is once holds =
-    elim (freed-acts n t.cause s once holds is.allowed) [
-      | inl held ↦ inr (subst (Holds n) (sym is.after) held)
+step-holds : (n : ℕ) (request : Request) (s : State) (t : Step) → IsStep s t → WorkersStandOnce s → ServicesAgree s → Holds n request s → IsFreeing n request t ⊎ Holds n request t.after
+step-holds n request s t is once agree holds =
+    elim (kept-acts t.cause s (OrFreed n request t.cause s once agree holds) (freed-kept n request t.cause s once agree holds) is.allowed (inl holds)) [
+      | inl held ↦ inr (subst (Holds n request) (sym is.after) held)
       | inr freed ↦ elim freed [
         | inl gone ↦ inl (inr (inr (subst (HasLeft n) (sym is.after) gone)))
         | inr by_this ↦ elim by_this [
-          | inl final ↦ inl (inl (record {
-            message = final.message;
-            cause = final.cause;
-            says = subst (Replies true n (said_in final.message)) (sym is.before) final.says;
-          }))
+          | inl final ↦ inl (inl (subst (IsFinalReply n request) (sym (step-is s t is)) final))
           | inr ends ↦ inl (inr (inl ends))
         ]
       ]
@@ -175,12 +177,17 @@ chain-split : (s end : State) (xs ys : List Step) → IsChain s (xs ++ ys) end �
 chain-split s end [] ys chain = (s, refl, chain)
 chain-split s end (t ∷ xs) ys chain = let rest = chain-split t.after end xs ys chain.1 in (rest.0, (chain.0, rest.1), rest.2)
 
-holds-on : (n : ℕ) (s end : State) (steps : List Step) → IsChain s steps end → AllByRecursion (λ t. WorkersStandOnce t.before) steps → Holds n s → OneFrees n steps ⊎ Holds n end
-holds-on n s end [] chain all holds = inr (subst (Holds n) chain holds)
-holds-on n s end (t ∷ steps) chain all holds =
-    elim (step-holds n s t chain.0 (subst WorkersStandOnce chain.0.before all.0) holds) [
+abbrev Stands : State → Type 0
+Stands s = WorkersStandOnce s × ServicesAgree s
+
+holds-on : (n : ℕ) (request : Request) (s end : State) (steps : List Step) → IsChain s steps end → AllByRecursion (λ t. Stands t.before) steps → Holds n request s
+    → OneFrees n request steps ⊎ Holds n request end
+holds-on n request s end [] chain all holds = inr (subst (Holds n request) chain holds)
+holds-on n request s end (t ∷ steps) chain all holds =
+    let stands = subst Stands chain.0.before all.0 in
+    elim (step-holds n request s t chain.0 stands.0 stands.1 holds) [
       | inl frees ↦ inl (inl frees)
-      | inr held ↦ elim (holds-on n t.after end steps chain.1 all.1 held) [ inl later ↦ inl (inr later) | inr still ↦ inr still ]
+      | inr held ↦ elim (holds-on n request t.after end steps chain.1 all.1 held) [ inl later ↦ inl (inr later) | inr still ↦ inr still ]
     ]
 
 -- ---- a REQUEST
@@ -196,8 +203,24 @@ put-held : (n : ℕ) (piece : List ℕ) (o : Option Connection) (s : State) (lan
 put-held n piece None s lane octets put = absurd (cc put)
 put-held n piece (Some c) s lane octets put = put-held_if (is_slow s.limits c (length piece)) n piece c s lane octets put
 
-request-holds : (n : ℕ) (s : State) (t : Step) → IsStep s t → IsRequestTo n t → Holds n t.after
-request-holds n s t is request =
+places-few : (o : Option (List ℕ)) → places o ≤ 1
+places-few None = omega arith
+places-few (Some service) = omega arith
+
+-- who is given a request held none
+request-free : (n : ℕ) (s : State) (u : Step) → IsStep s u → IsRequestTo n u → WorkersStandOnce s → holdings n s.held ≡ 0
+request-free n s u is request once =
+    let p = request.chosen in
+    let found : pair s.waiting s.queue ≡ Some p = subst (λ (c : Cause). IsAllowed c s) request.cause is.allowed in
+    let waiting = times-first (λ (x : Waiter). x.worker == n) (serves p.request.service) s.waiting p.waiter p.waiting (is-pair s.waiting s.queue p found).found in
+    let one = ap one_if (ap (λ (x : ℕ). x == n) request.worker ∙ equal n) in
+    let now = once n in
+    let few = places-few (service_of (connection_of n s.connections)) in
+    omega (arith, waiting, one, now, few)
+
+-- and holds it from then on
+request-holds : (n : ℕ) (s : State) (t : Step) → IsStep s t → (request : IsRequestTo n t) → WorkersStandOnce s → Holds n (bodiless request.chosen.request) t.after
+request-holds n s t is request once =
     let p = request.chosen in
     let piece = request_text (voice_of (connection_of p.waiter.worker s.connections)) p.request in
     let found = connection_of p.waiter.worker (handed p s).connections in
@@ -206,43 +229,31 @@ request-holds n s t is request =
     let held : t.after.held ≡ s.held ++ held_by_pair p ∷ [] =
     ap (λ (x : State). x.held) is.after ∙ ap (λ (c : Cause). (acts c s).0.held) request.cause
     ∙ put-held p.waiter.worker piece found (handed p s) request.lane request.octets put in
-    let count = ap (holdings n) held in
-    let more = times-append (λ (x : Held). x.worker == n) s.held (held_by_pair p ∷ []) in
-    let one = ap one_if (ap (λ (x : ℕ). x == n) request.worker ∙ equal n) in
-    omega (arith, count, more, one)
-
-places-few : (o : Option (List ℕ)) → places o ≤ 1
-places-few None = omega arith
-places-few (Some service) = omega arith
-
--- whoever holds a request gets none
-no-request : (n : ℕ) (s : State) (u : Step) → IsStep s u → IsRequestTo n u → WorkersStandOnce s → Holds n s → ⊥
-no-request n s u is request once holds =
-    let p = request.chosen in
-    let found : pair s.waiting s.queue ≡ Some p = subst (λ (c : Cause). IsAllowed c s) request.cause is.allowed in
-    let waiting = times-first (λ (x : Waiter). x.worker == n) (serves p.request.service) s.waiting p.waiter p.waiting (is-pair s.waiting s.queue p found).found in
-    let one = ap one_if (ap (λ (x : ℕ). x == n) request.worker ∙ equal n) in
-    let now = once n in
-    let few = places-few (service_of (connection_of n s.connections)) in
-    omega (arith, waiting, one, now, few, holds)
+    ap (held_by n) held ∙ held-last n s.held (held_by_pair p) request.worker (request-free n s t is request once)
 
 -- ---- runs
 
 pub one_request_at_a_time : (limits : Limits) (events : List Event) (n : ℕ) (front between rest : List Step) (t u : Step)
-    → run_steps limits (start limits) events ≡ front ++ (t ∷ (between ++ (u ∷ rest))) → IsRequestTo n t → IsRequestTo n u → OneFrees n between
+    → run_steps limits (start limits) events ≡ front ++ (t ∷ (between ++ (u ∷ rest))) → (first : IsRequestTo n t) → IsRequestTo n u
+    → OneFrees n (bodiless first.chosen.request) between
 one_request_at_a_time limits events n front between rest t u whole first second =
+    let request = bodiless first.chosen.request in
     let end = (run_state limits (start limits) events).state in
     let chain : IsChain (start limits).state (front ++ (t ∷ (between ++ (u ∷ rest)))) end =
     subst (λ (xs : List Step). IsChain (start limits).state xs end) whole (steps-lead limits (start limits) events) in
-    let once : AllByRecursion (λ x. WorkersStandOnce x.before) (front ++ (t ∷ (between ++ (u ∷ rest)))) =
-    subst (AllByRecursion (λ (x : Step). WorkersStandOnce x.before)) whole
-    (all-map _ _ (λ x sound. sound.0.once) (run_steps limits (start limits) events) (stays-sound limits events).0) in
+    let stand : AllByRecursion (λ x. Stands x.before) (front ++ (t ∷ (between ++ (u ∷ rest)))) =
+    subst (AllByRecursion (λ (x : Step). Stands x.before)) whole
+    (all-map _ _ (λ x sound. (sound.0.once, sound.0.services)) (run_steps limits (start limits) events) (stays-sound limits events).0) in
     let at_t = chain-split (start limits).state end front (t ∷ (between ++ (u ∷ rest))) chain in
-    let once_t = all-rest (λ (x : Step). WorkersStandOnce x.before) front (t ∷ (between ++ (u ∷ rest))) once in
+    let stand_t = all-rest (λ (x : Step). Stands x.before) front (t ∷ (between ++ (u ∷ rest))) stand in
     let at_u = chain-split t.after end between (u ∷ rest) at_t.2.1 in
-    let once_u = all-rest (λ (x : Step). WorkersStandOnce x.before) between (u ∷ rest) once_t.1 in
-    let holds = request-holds n at_t.0 t at_t.2.0 first in
-    elim (holds-on n t.after at_u.0 between at_u.1 (all-front (λ (x : Step). WorkersStandOnce x.before) between (u ∷ rest) once_t.1) holds) [
+    let stand_u = all-rest (λ (x : Step). Stands x.before) between (u ∷ rest) stand_t.1 in
+    let holds = request-holds n at_t.0 t at_t.2.0 first (subst Stands at_t.2.0.before stand_t.0).0 in
+    elim (holds-on n request t.after at_u.0 between at_u.1 (all-front (λ (x : Step). Stands x.before) between (u ∷ rest) stand_t.1) holds) [
       | inl freed ↦ freed
-      | inr still ↦ absurd (no-request n at_u.0 u at_u.2.0 second (subst WorkersStandOnce at_u.2.0.before once_u.0) still)
+      | inr still ↦ (
+          let some = held-counts n at_u.0.held request still in
+          let none = request-free n at_u.0 u at_u.2.0 second (subst Stands at_u.2.0.before stand_u.0).0 in
+          absurd (omega (arith, some, none))
+          )
     ]

@@ -13,19 +13,19 @@ use Rattle.mj_machine.specs.declared.connection.Role.{Role}
 use Rattle.mj_machine.specs.declared.connection.Role.TheVariants.{Fresh, Client, Worker, Gone}
 use Rattle.mj_machine.specs.declared.held.Held.{Held}
 use Rattle.mj_machine.specs.MachineState.{State}
-use Rattle.mj_machine.specs.Connections.{changed, connection_of, with_role}
+use Rattle.mj_machine.specs.Connections.{changed, connection_of, service_in, service_of, with_role}
 use Rattle.mj_machine.specs.Leaving.{becomes, held_without, left, removed}
 use Rattle.mj_machine.specs.Sending.{sent}
 use Rattle.mj_machine.specs.Pairing.{held_by_pair, mark_set}
 use Rattle.mj_machine.specs.MessageStep.{registration}
 use Rattle.mj_machine.specs.EventStep.{delivered}
+use Rattle.mj_machine.specs.Steps.{Cause}
 use Rattle.mj_machine.proofs.ConnectionLemmas.{changed-other, cut_off-other, cut_off-same, differs, equal}
-use Rattle.mj_laws.specs.Soundness.{ServicesAgree, WorkersStandOnce, holdings, one_if, places, service_in, service_of, waitings}
+use Rattle.mj_laws.specs.Soundness.{ServicesAgree, WorkersStandOnce, holdings, one_if, places, waitings}
 use Rattle.mj_laws.proofs.CountLemmas.{all-first, passed-apart, times-append, times-first, times-without-other, times-without-same}
-use Rattle.mj_laws.proofs.ListLemmas.{all-append, all-map, all-passed}
-use Rattle.mj_laws.proofs.LookLemmas.{heard-service, look-added, look-changed, look-same, service-given, service-idle, spoken-service}
-use Rattle.mj_laws.proofs.StepWalk.{Anybody, IsFree}
-use Rattle.mj_laws.proofs.Walk.{IsKept, IsNoServer, given_over}
+use Rattle.mj_machine.proofs.ListLemmas.{all-append, all-map, all-passed}
+use Rattle.mj_machine.proofs.LookLemmas.{heard-service, look-added, look-changed, look-same, service-given, service-idle, spoken-service}
+use Rattle.mj_machine.proofs.Walk.{IsKept, IsNoServer, given_over}
 
 -- ---- what stays
 
@@ -120,22 +120,22 @@ once-left : (q : ℕ) (role : Role) (s : State) → service_in role ≡ None →
 once-left q role s idle once =
     once-gone s q (becomes q role s).connections once (service-given q role s.connections idle) (λ n apart. changed-other q n (with_role role) (λ c. refl) apart s.connections)
 
-pub once-kept : (s0 : State) → IsKept Anybody (IsFree s0) Anybody s0 WorkersStandOnce
-once-kept s0 = record {
+pub once-kept : (cause : Cause) (s0 : State) → IsKept cause s0 WorkersStandOnce
+once-kept cause s0 = record {
   keeps_marked = λ q s p. once-same s _ p (λ n. service-marked n q s.now s.connections);
   keeps_sent = λ q octets c s is slow p. once-same s _ p (λ n. service-sent n q s.now octets s.connections);
   keeps_reported = λ q s p. once-same s _ p (λ n. service-reported n q s.connections);
   keeps_removed = λ q s p. once-gone s q (removed q s).connections p (ap service_of (cut_off-same q s.connections)) (λ n apart. cut_off-other q n apart s.connections);
   keeps_gone = λ q s p. once-left q Gone s refl p;
-  keeps_expired = λ q s ends p. once-left q Fresh s refl p;
+  keeps_expired = λ q s is p. once-left q Fresh s refl p;
   keeps_asking = λ q c is plain p. once-same s0 _ p (λ n. service-asking n q c s0.connections is plain);
-  keeps_queued = λ q c request is origin p. p;
-  keeps_registered = λ q c voice service is fresh p. once-waits s0 q service (becomes q (Worker (registration voice service s0)) s0).connections p
+  keeps_queued = λ q c message request told is origin p. p;
+  keeps_registered = λ q c message voice service told is fresh p. once-waits s0 q service (becomes q (Worker (registration voice service s0)) s0).connections p
       (ap (λ (o : Option Connection). places (service_of o)) (look-same q (with_role (Worker (registration voice service s0))) (λ d. refl) s0.connections c is))
       (λ n apart. changed-other q n (with_role (Worker (registration voice service s0))) (λ d. refl) apart s0.connections);
-  keeps_rested = λ q service s may works p. once-waits s q service s.connections p (ap places works) (λ n apart. refl);
-  keeps_given = λ p is once. once-given s0 p is once;
-  keeps_opened = λ lane free p. once-same s0 _ p (λ n. look-added service_of n _ refl s0.connections);
+  keeps_rested = λ q service s final works p. once-waits s q service s.connections p (ap places works) (λ n apart. refl);
+  keeps_given = λ p by is once. once-given s0 p is once;
+  keeps_opened = λ lane is p. once-same s0 _ p (λ n. look-added service_of n _ refl s0.connections);
   keeps_time = λ ms s p. p;
 }
 
@@ -181,22 +181,22 @@ agree-left : (q : ℕ) (role : Role) (s : State) → ServicesAgree s → Service
 agree-left q role s all =
     agree-without q s.connections (becomes q role s).connections s.waiting s.held (λ n apart. changed-other q n (with_role role) (λ c. refl) apart s.connections) all
 
-pub services-kept : (s0 : State) → IsKept Anybody (IsFree s0) Anybody s0 ServicesAgree
-services-kept s0 = record {
+pub services-kept : (cause : Cause) (s0 : State) → IsKept cause s0 ServicesAgree
+services-kept cause s0 = record {
   keeps_marked = λ q s p. agree-same s.connections _ s.waiting s.held (λ n. service-marked n q s.now s.connections) p;
   keeps_sent = λ q octets c s is slow p. agree-same s.connections _ s.waiting s.held (λ n. service-sent n q s.now octets s.connections) p;
   keeps_reported = λ q s p. agree-same s.connections _ s.waiting s.held (λ n. service-reported n q s.connections) p;
   keeps_removed = λ q s p. agree-without q s.connections (removed q s).connections s.waiting s.held (λ n apart. cut_off-other q n apart s.connections) p;
   keeps_gone = λ q s p. agree-left q Gone s p;
-  keeps_expired = λ q s ends p. agree-left q Fresh s p;
+  keeps_expired = λ q s is p. agree-left q Fresh s p;
   keeps_asking = λ q c is plain p. agree-same s0.connections _ s0.waiting s0.held (λ n. service-asking n q c s0.connections is plain) p;
-  keeps_queued = λ q c request is origin p. p;
-  keeps_registered = λ q c voice service is fresh p.
+  keeps_queued = λ q c message request told is origin p. p;
+  keeps_registered = λ q c message voice service told is fresh p.
       agree-waits q service s0.connections (becomes q (Worker (registration voice service s0)) s0).connections s0.waiting s0.held
       (ap service_of (look-same q (with_role (Worker (registration voice service s0))) (λ d. refl) s0.connections c is))
       (λ n apart. changed-other q n (with_role (Worker (registration voice service s0))) (λ d. refl) apart s0.connections) p;
-  keeps_rested = λ q service s may works p. agree-waits q service s.connections s.connections s.waiting s.held works (λ n apart. refl) p;
-  keeps_given = λ p is all. agree-given s0 p is all;
-  keeps_opened = λ lane free p. agree-same s0.connections _ s0.waiting s0.held (λ n. look-added service_of n _ refl s0.connections) p;
+  keeps_rested = λ q service s final works p. agree-waits q service s.connections s.connections s.waiting s.held works (λ n apart. refl) p;
+  keeps_given = λ p by is all. agree-given s0 p is all;
+  keeps_opened = λ lane is p. agree-same s0.connections _ s0.waiting s0.held (λ n. look-added service_of n _ refl s0.connections) p;
   keeps_time = λ ms s p. p;
 }

@@ -6,6 +6,7 @@ use Rattle.mj_base.specs.declared.event.Event.{Event}
 use Rattle.mj_base.specs.declared.event.Out.{Out}
 use Rattle.mj_base.specs.declared.event.Out.TheVariants.{End, Note, Piece}
 use Rattle.mj_base.specs.declared.limits.Limits.{Limits}
+use Rattle.mj_base.specs.declared.version.Version.TheVariants.{Two}
 use Rattle.mj_client_cmd.specs.ClientWriting.{reply_frames}
 use Rattle.mj_client_cmd.specs.declared.command.ClientCmd.{ClientCmd}
 use Rattle.mj_client_cmd.specs.declared.command.ClientReply.{ClientReply}
@@ -25,8 +26,8 @@ use Rattle.mj_laws.specs.Requests.{Replies}
 abbrev pub IsReply : List ℕ → Type 0
 IsReply octets = (reply : ClientReply) × (octets ≡ message_octets (reply_frames reply))
 
--- the step is a reply of a connection that held, before it, a request of the client on this lane; and the bytes are
--- that reply, in the request's service and version
+-- the step is a reply of a worker that held, before it, a request of the client on this lane; and the bytes are that
+-- reply, in the request's service and version
 pub record IsOwned (lane : ℕ) (octets : List ℕ) (t : Step) : Type 0 where
   pub worker : ℕ
   pub message : List (List ℕ)
@@ -69,11 +70,13 @@ RepliesAreOwned limits events = AllByRecursion (λ t. AllByRecursion (IsExplaine
 abbrev pub AreShort : List (List ℕ) → Type 0
 AreShort frames = AllByRecursion (λ frame. length frame < 2 ^ 64) frames
 
+-- in 0.1 each reply is the last one
 pub record SaysTheSame (reply other : ClientReply) : Type 0 where
   pub version : reply.version ≡ other.version
   pub lead : reply.lead ≡ other.lead
   pub service : reply.service ≡ other.service
   pub body : reply.body ≡ other.body
+  pub last : reply.version ≡ Two → reply.last ≡ other.last
 
 -- bytes can be read as one reply alone, whose frames have sizes that fit a head
 abbrev pub OneReplyOfBytes : Type 0

@@ -12,6 +12,7 @@ use Rattle.mj_worker_cmd.specs.declared.command.OrderAct.TheVariants.{Request}
 use Rattle.mj_worker_cmd.specs.declared.command.WorkerAct.TheVariants.{Reply}
 use Rattle.mj_worker_cmd.specs.declared.command.WorkerCmd.{WorkerCmd}
 use Rattle.mj_machine.specs.declared.connection.Connection.{Connection}
+use Rattle.mj_machine.specs.declared.connection.Registration.{Registration}
 use Rattle.mj_machine.specs.declared.connection.Role.{Role}
 use Rattle.mj_machine.specs.declared.connection.Role.TheVariants.{Client, Fresh, Gone, Worker}
 use Rattle.mj_machine.specs.declared.connection.Voice.{Voice}
@@ -21,7 +22,7 @@ use Rattle.mj_machine.specs.MachineState.{State, start}
 use Rattle.mj_machine.specs.Connections.{connection_of, voice_of}
 use Rattle.mj_machine.specs.MessageStep.{held_by, said_in}
 use Rattle.mj_machine.specs.Sending.{address, order_text}
-use Rattle.mj_machine.specs.Pairing.{request_text}
+use Rattle.mj_machine.specs.Pairing.{bodiless, request_text}
 use Rattle.mj_machine.specs.TickStep.{is_due}
 use Rattle.mj_machine.specs.Steps.{Expiry, Item, Paired, Step, run_steps}
 
@@ -34,21 +35,30 @@ pub record IsRequestTo (n : ℕ) (t : Step) : Type 0 where
   pub octets : List ℕ
   pub put : t.outs ≡ Piece lane octets ∷ []
 
--- these words are a reply, the last one where final is true, to the asker of the request that the connection holds
+-- these words are a reply, the last one where final is true: of a worker, in its version, to the asker of the request that
+-- it holds, which is for the service that it serves
 pub record Replies (final : Bool) (n : ℕ) (said : Said) (s : State) : Type 0 where
+  pub worker : Connection
+  pub there : connection_of n s.connections ≡ Some worker
+  pub registration : Registration
+  pub role_is : worker.role ≡ Worker registration
   pub cmd : WorkerCmd
+  pub said_is : said ≡ Serves cmd
+  pub version_is : cmd.version ≡ registration.version
   pub to : List ℕ
   pub body : List (List ℕ)
-  pub request : AnyRequest
-  pub said_is : said ≡ Serves cmd
   pub act_is : cmd.act ≡ Reply final to body
+  pub request : AnyRequest
   pub holds : held_by n s.held ≡ Some request
+  pub service_is : registration.service ≡ request.service
   pub address_is : to ≡ address request.origin
 
-pub record IsFinalReply (n : ℕ) (t : Step) : Type 0 where
+-- the step is the connection's final reply to this request
+pub record IsFinalReply (n : ℕ) (request : AnyRequest) (t : Step) : Type 0 where
   pub message : List (List ℕ)
   pub cause : t.cause ≡ Item n (Message message)
   pub says : Replies true n (said_in message) t.before
+  pub answers : says.request ≡ request
 
 abbrev pub is_gone : Role → Bool
 is_gone Fresh = false
@@ -61,19 +71,19 @@ abbrev pub has_left : Option Connection → Bool
 has_left None = true
 has_left (Some c) = is_gone c.role
 
--- its final reply, its lease's end, or its leaving
-abbrev pub IsFreeing : ℕ → Step → Type 0
-IsFreeing n t = IsFinalReply n t ⊎ ((t.cause ≡ Expiry n) ⊎ (has_left (connection_of n t.after.connections) ≡ true))
+-- its final reply to this request, its lease's end, or its leaving
+abbrev pub IsFreeing : ℕ → AnyRequest → Step → Type 0
+IsFreeing n request t = IsFinalReply n request t ⊎ ((t.cause ≡ Expiry n) ⊎ (has_left (connection_of n t.after.connections) ≡ true))
 
-abbrev pub OneFrees : ℕ → List Step → Type 0
-OneFrees n [] = ⊥
-OneFrees n (t ∷ steps) = IsFreeing n t ⊎ OneFrees n steps
+abbrev pub OneFrees : ℕ → AnyRequest → List Step → Type 0
+OneFrees n request [] = ⊥
+OneFrees n request (t ∷ steps) = IsFreeing n request t ⊎ OneFrees n request steps
 
--- between two REQUESTs to one connection
+-- between two REQUESTs to one connection; a final reply there is to the request that the first of the two handed over
 abbrev pub OneRequestAtATime : Limits → List Event → Type 0
 OneRequestAtATime limits events = (n : ℕ) (front between rest : List Step) (t u : Step)
     → run_steps limits (start limits) events ≡ front ++ (t ∷ (between ++ (u ∷ rest)))
-    → IsRequestTo n t → IsRequestTo n u → OneFrees n between
+    → (first : IsRequestTo n t) → IsRequestTo n u → OneFrees n (bodiless first.chosen.request) between
 
 -- ---- REQUESTs, said of bytes
 

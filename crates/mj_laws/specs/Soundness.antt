@@ -7,26 +7,13 @@ use Rattle.mj_queue.specs.declared.request.Origin.{Origin}
 use Rattle.mj_queue.specs.declared.request.Origin.TheVariants as origins
 use Rattle.mj_queue.specs.declared.worker.Waiter.{Waiter}
 use Rattle.mj_machine.specs.declared.connection.Connection.{Connection}
-use Rattle.mj_machine.specs.declared.connection.Role.{Role}
-use Rattle.mj_machine.specs.declared.connection.Role.TheVariants.{Fresh, Client, Worker, Gone}
 use Rattle.mj_machine.specs.declared.held.Held.{Held}
 use Rattle.mj_machine.specs.MachineState.{State, start}
-use Rattle.mj_machine.specs.Connections.{connection_of, is_asking}
+use Rattle.mj_machine.specs.Connections.{connection_of, is_asking, service_of}
 use Rattle.mj_machine.specs.MachineRun.{run_state}
 use Rattle.mj_machine.specs.Steps.{run_steps}
 
 -- ---- workers
-
-abbrev pub service_in : Role → Option (List ℕ)
-service_in Fresh = None
-service_in Client = None
-service_in (Worker r) = Some r.service
-service_in Gone = None
-
--- the service of a connection that is a worker
-abbrev pub service_of : Option Connection → Option (List ℕ)
-service_of None = None
-service_of (Some c) = service_in c.role
 
 -- in how many places a worker stands
 abbrev pub places : Option (List ℕ) → ℕ

@@ -4,9 +4,6 @@
 mod laws;
 
 pub use laws::{
-    nobody_waits_for_a_queued_service, numbers_and_lanes, one_request_at_a_time,
-    replies_reach_their_asker,
+    cuts_change_nothing, nobody_waits_for_a_queued_service, numbers_and_lanes,
+    one_request_at_a_time, replies_reach_their_asker,
 };
-
-#[cfg(test)]
-mod tests;

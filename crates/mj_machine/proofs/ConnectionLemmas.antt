@@ -22,7 +22,7 @@ equal a = elim (eqb_tells a a) [ inl same ↦ same.0 | inr other ↦ absurd (oth
 -- ---- first by a key
 
 module _ {X : Type 0} (key : X → ℕ) where
-  find-without-same : (n : ℕ) (xs : List X) → find (λ x. key x == n) (filter (λ x. not (key x == n)) xs) ≡ None
+  pub find-without-same : (n : ℕ) (xs : List X) → find (λ x. key x == n) (filter (λ x. not (key x == n)) xs) ≡ None
   find-without-same n [] = refl
   find-without-same n (x ∷ xs) = by (key x == n) refl (find-without-same n xs)
     where
@@ -31,7 +31,7 @@ module _ {X : Type 0} (key : X → ℕ) where
       by true e rest = rest
       by false e rest = rw e rest
 
-  find-without-other : (n q : ℕ) → q ≢ n → (xs : List X) → find (λ x. key x == q) (filter (λ x. not (key x == n)) xs) ≡ find (λ x. key x == q) xs
+  pub find-without-other : (n q : ℕ) → q ≢ n → (xs : List X) → find (λ x. key x == q) (filter (λ x. not (key x == n)) xs) ≡ find (λ x. key x == q) xs
   find-without-other n q apart [] = refl
   find-without-other n q apart (x ∷ xs) = by (key x == n) refl (find-without-other n q apart xs)
     where

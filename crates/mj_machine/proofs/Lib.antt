@@ -1,10 +1,15 @@
 pub mod WorkedLemmas
 pub mod SettlingLemmas
 pub mod RunLemmas
+pub mod ListLemmas
 pub mod ConnectionLemmas
+pub mod LookLemmas
+pub mod Walk
 pub mod AbsentLemmas
 pub mod NextLemmas
 pub mod ByteLemmas
 pub mod StepLemmas
+pub mod StepWalk
 pub mod PieceLemmas
+pub mod StreamLemmas
 pub mod WorkedStepLemmas

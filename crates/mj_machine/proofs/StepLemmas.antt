@@ -1,5 +1,6 @@
 -- The steps of a run are the run: they lead from its first state to its last, and do what it does.
 use Rattle.std.proofs.Common.{◌≡◌, ℕ, zero, suc, List, [], ◌∷◌, ◌++◌, length, Option, None, Some, refl, sym, ap, subst, ◌∙◌, append-nil, append_assoc}
+use Rattle.std.specs.List.{AllByRecursion}
 use Rattle.std.proofs.lemmas.Grind.{flat_map-append}
 use Rattle.mj_base.specs.declared.event.Event.{Event}
 use Rattle.mj_base.specs.declared.event.Out.{Out}
@@ -14,13 +15,33 @@ use Rattle.mj_machine.specs.Pairing.{dispatches, settles, turns}
 use Rattle.mj_machine.specs.TickStep.{all_beat, all_expire, at_moment, beats, due_numbers, expires, leases_end, silent_numbers}
 use Rattle.mj_machine.specs.EventStep.{Closes, Gains, Happening, Opens, Reports, Stops, Ticks, closes, effect, gains, happening, happens, item_step, opens, outs_of, state_after}
 use Rattle.mj_machine.specs.MachineRun.{run_outs, run_state}
-use Rattle.mj_machine.specs.Steps.{Beat, Cause, Closing, Expiry, IsAllowed, IsChain, Item, Opening, Paired, Report, Step, Time, acts, beat_step, beat_steps, effect_steps, event_steps, expiry_step, gain_steps, happening_steps, item_steps, lease_steps, outs_in, pair_step, run_steps, settle_steps, step, turn_steps}
+use Rattle.mj_machine.specs.Steps.{Beat, Cause, Closing, Expiry, IsAllowed, IsChain, IsStep, Item, Opening, Paired, Report, Step, Time, acts, beat_step, beat_steps, effect_steps, event_steps, expiry_step, gain_steps, happening_steps, item_steps, lease_steps, outs_in, pair_step, run_steps, settle_steps, step, step_of, turn_steps}
 
 -- ---- chains
 
 pub chain-append : (s middle end : State) (xs ys : List Step) → IsChain s xs middle → IsChain middle ys end → IsChain s (xs ++ ys) end
 chain-append s middle end [] ys first second = subst (λ (t : State). IsChain t ys end) (sym first) second
 chain-append s middle end (t ∷ xs) ys first second = (first.0, chain-append t.after middle end xs ys first.1 second)
+
+-- a step is what its cause makes of the state before it
+pub step-is : (s : State) (t : Step) → IsStep s t → t ≡ step_of t.cause s
+step-is s t is =
+    ap (λ (x : State). record { cause = t.cause; before = x; after = t.after; outs = t.outs }) is.before
+    ∙ ap (λ (x : State). record { cause = t.cause; before = s; after = x; outs = t.outs }) is.after
+    ∙ ap (λ (x : List Out). record { cause = t.cause; before = s; after = (acts t.cause s).0; outs = x }) is.outs
+
+-- the step is an act that may be done
+pub record IsAct (t : Step) : Type 0 where
+  pub is : t ≡ step_of t.cause t.before
+  pub allowed : IsAllowed t.cause t.before
+
+chain-acts : (s end : State) (steps : List Step) → IsChain s steps end → AllByRecursion IsAct steps
+chain-acts s end [] chain = tt
+chain-acts s end (t ∷ steps) chain =
+    let s_is = sym chain.0.before in (
+      record { is = subst (λ (x : State). t ≡ step_of t.cause x) s_is (step-is s t chain.0); allowed = subst (IsAllowed t.cause) s_is chain.0.allowed },
+      chain-acts t.after end steps chain.1,
+    )
 
 -- ---- steps that are an act
 
@@ -100,7 +121,7 @@ reads-ticks ms s =
     (reads-then s (step (Time ms) s) (quiet (at_moment ms s)) lease_steps (λ t. quiet (leases_end t)) (reads-step (Time ms) s tt) (λ t. reads-expiries (due_numbers t) t))
     (λ t. reads-beats t)
 
-reads-effect : (h : Happening) (s : State) → Reads s (effect_steps h s) (effect h s)
+pub reads-effect : (h : Happening) (s : State) → Reads s (effect_steps h s) (effect h s)
 reads-effect (Opens lane) s =
     reads-then s (step (Closing lane) s) (quiet (closes (number_on lane s.connections) s)) (step (Opening lane)) (opens lane)
     (reads-step (Closing lane) s tt) (λ t. reads-step (Opening lane) t tt)
@@ -126,6 +147,10 @@ steps-lead limits m [] = refl
 steps-lead limits m (event ∷ events) =
     chain-append m.state (state_after limits m event).state (run_state limits (state_after limits m event) events).state (event_steps limits m event)
     (run_steps limits (state_after limits m event) events) (event-chain limits m event) (steps-lead limits (state_after limits m event) events)
+
+-- each step of a run is an act
+pub steps-act : (limits : Limits) (m : Machine) (events : List Event) → AllByRecursion IsAct (run_steps limits m events)
+steps-act limits m events = chain-acts m.state (run_state limits m events).state (run_steps limits m events) (steps-lead limits m events)
 
 pub steps-do : (limits : Limits) (m : Machine) (events : List Event) → outs_in (run_steps limits m events) ≡ run_outs limits m events
 steps-do limits m [] = refl

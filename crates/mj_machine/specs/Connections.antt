@@ -65,3 +65,14 @@ is_client_role Gone = false
 abbrev pub is_asking : Option Connection → Bool
 is_asking None = false
 is_asking (Some c) = is_client_role c.role
+
+abbrev pub service_in : Role → Option (List ℕ)
+service_in Fresh = None
+service_in Client = None
+service_in (Worker r) = Some r.service
+service_in Gone = None
+
+-- the service of a connection that is a worker
+abbrev pub service_of : Option Connection → Option (List ℕ)
+service_of None = None
+service_of (Some c) = service_in c.role

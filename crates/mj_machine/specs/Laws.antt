@@ -1,12 +1,8 @@
 -- Laws of runs.
-use Rattle.std.specs.Prelude.{ℕ, ◌≡◌, List, ◌++◌, Option}
+use Rattle.std.specs.Prelude.{◌≡◌, List, ◌++◌}
 use Rattle.mj_base.specs.declared.event.Event.{Event}
 use Rattle.mj_base.specs.declared.limits.Limits.{Limits}
-use Rattle.mj_wire.specs.StreamItems.{gained}
-use Rattle.mj_wire.specs.declared.item.WireItem.{WireItem}
-use Rattle.mj_machine.specs.MachineState.{Machine, State}
-use Rattle.mj_machine.specs.Acts.{◌then◌}
-use Rattle.mj_machine.specs.EventStep.{gains}
+use Rattle.mj_machine.specs.MachineState.{Machine}
 use Rattle.mj_machine.specs.MachineRun.{run_outs, run_state}
 use Rattle.mj_machine.specs.Steps.{IsChain, outs_in, run_steps}
 
@@ -30,13 +26,3 @@ StepsLead = (limits : Limits) (m : Machine) (events : List Event) → IsChain m.
 -- what they do is what the run does
 abbrev pub StepsDo : Type 0
 StepsDo = (limits : Limits) (m : Machine) (events : List Event) → outs_in (run_steps limits m events) ≡ run_outs limits m events
-
--- two pieces behind each other add what the first adds to the stream, and then what the second adds to the longer one
-abbrev pub PiecesGain : Type 0
-PiecesGain = (limits : Limits) (stream first second : List ℕ)
-    → gained limits stream (first ++ second) ≡ gained limits stream first ++ gained limits (stream ++ first) second
-
--- the items of two pieces have the effect of those of the first, and then of those of the second
-abbrev pub GainsInTurn : Type 0
-GainsInTurn = (number : Option ℕ) (first second : List WireItem) (s : State)
-    → gains number (first ++ second) s ≡ (gains number first s then gains number second)

@@ -1,5 +1,5 @@
 //! Laws of runs, proved once and for all. The functions do nothing.
-ghost use Rattle.mj_machine.specs.Laws.{FrontAndRestOuts, FrontAndRestState, FrontAndRestSteps, GainsInTurn, PiecesGain, StepsDo, StepsLead};
+ghost use Rattle.mj_machine.specs.Laws.{FrontAndRestOuts, FrontAndRestState, FrontAndRestSteps, StepsDo, StepsLead};
 ghost use Rattle.mj_machine.specs.WorkedSteps.{RunIsInSteps};
 
 /// A run over a list of events is a run over its front, and from there over its rest.
@@ -14,13 +14,6 @@ pub fn a_run_is_its_front_and_its_rest()
 pub fn steps_are_the_run()
     ensures lead { StepsLead }
     ensures outs { StepsDo }
-{}
-
-/// However a peer's bytes are cut, a connection gains the same items, and they have the same effect until
-/// settling.
-pub fn items_of_a_cut_piece()
-    ensures items { PiecesGain }
-    ensures effect { GainsInTurn }
 {}
 
 /// A worker, two requests in one piece, a reply, a heartbeat, a lease's end and a leaving, in their single acts.

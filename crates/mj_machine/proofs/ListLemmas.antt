@@ -7,6 +7,10 @@ module _ {X : Type 0} where
   all-map P Q step [] all = tt
   all-map P Q step (x ∷ xs) all = (step x all.0, all-map P Q step xs all.1)
 
+  pub all-both : (P Q : X → Type 0) (xs : List X) → AllByRecursion P xs → AllByRecursion Q xs → AllByRecursion (λ x. P x × Q x) xs
+  all-both P Q [] one two = tt
+  all-both P Q (x ∷ xs) one two = ((one.0, two.0), all-both P Q xs one.1 two.1)
+
   pub all-append : (P : X → Type 0) (xs ys : List X) → AllByRecursion P xs → AllByRecursion P ys → AllByRecursion P (xs ++ ys)
   all-append P [] ys first second = second
   all-append P (x ∷ xs) ys first second = (first.0, all-append P xs ys first.1 second)

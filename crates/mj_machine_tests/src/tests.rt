@@ -1,6 +1,10 @@
-use super::{
-    Lengths, a_run_is_its_front_and_its_rest, a_worked_run_in_steps, items_of_a_cut_piece,
-    steps_are_the_run, the_worked_runs,
+use mj_laws::{
+    cuts_change_nothing, nobody_waits_for_a_queued_service, numbers_and_lanes,
+    one_request_at_a_time, replies_reach_their_asker,
+};
+use mj_machine::{
+    Lengths, a_run_is_its_front_and_its_rest, a_worked_run_in_steps, steps_are_the_run,
+    the_worked_runs,
 };
 use std::test::Fail;
 
@@ -26,5 +30,9 @@ fn laws_and_worked_runs_can_be_called() {
     a_worked_run_in_steps();
     a_run_is_its_front_and_its_rest();
     steps_are_the_run();
-    items_of_a_cut_piece();
+    replies_reach_their_asker();
+    one_request_at_a_time();
+    nobody_waits_for_a_queued_service();
+    numbers_and_lanes();
+    cuts_change_nothing();
 }

@@ -10,14 +10,11 @@ use Rattle.mj_machine.specs.declared.connection.Connection.{Connection}
 use Rattle.mj_machine.specs.declared.connection.Role.{Role}
 use Rattle.mj_machine.specs.declared.connection.Role.TheVariants.{Fresh, Client, Worker, Gone}
 use Rattle.mj_machine.specs.MachineState.{State}
-use Rattle.mj_machine.specs.Connections.{changed, connection_of, heard, is_asking, is_client_role, spoken_to, with_role}
+use Rattle.mj_machine.specs.Connections.{changed, connection_of, heard, is_asking, is_client_role, service_in, service_of, spoken_to, with_role}
 use Rattle.mj_machine.specs.Acts.{Done, quiet}
 use Rattle.mj_machine.specs.Sending.{is_slow, reply_text, sends, sends_if, sends_to, sent}
 use Rattle.mj_machine.specs.MessageStep.{delivers_to, is_two}
-use Rattle.mj_machine.specs.Steps.{IsStep, Step, acts, step_of}
 use Rattle.mj_machine.proofs.ConnectionLemmas.{Keeps, changed-other, changed-same, cut_off-other}
-use Rattle.mj_laws.specs.Requests.{has_left, is_gone}
-use Rattle.mj_laws.specs.Soundness.{service_in, service_of}
 
 -- what one sees of the connection at a number stays where the change doesn't touch it
 pub look-changed : {A : Type 0} (see : Option Connection → A) (n q : ℕ) (f : Connection → Connection) → Keeps f
@@ -59,29 +56,6 @@ spoken-client now Fresh = refl
 spoken-client now Client = refl
 spoken-client now (Worker r) = refl
 spoken-client now Gone = refl
-
-pub heard-gone : (now : ℕ) (role : Role) → is_gone (heard now role) ≡ is_gone role
-heard-gone now Fresh = refl
-heard-gone now Client = refl
-heard-gone now (Worker r) = refl
-heard-gone now Gone = refl
-
-pub spoken-gone : (now : ℕ) (role : Role) → is_gone (spoken_to now role) ≡ is_gone role
-spoken-gone now Fresh = refl
-spoken-gone now Client = refl
-spoken-gone now (Worker r) = refl
-spoken-gone now Gone = refl
-
--- who has left is no worker
-pub left-idle : (o : Option Connection) → has_left o ≡ true → service_of o ≡ None
-left-idle None gone = refl
-left-idle (Some c) gone = by c.role gone
-  where
-    by : (role : Role) → is_gone role ≡ true → service_in role ≡ None
-    by Fresh gone = refl
-    by Client gone = refl
-    by (Worker r) gone = absurd (cc gone)
-    by Gone gone = refl
 
 -- who is a client is no worker
 pub no-asker : (o : Option Connection) (service : List ℕ) → service_of o ≡ Some service → is_asking o ≡ true → ⊥
@@ -149,14 +123,6 @@ service-idle n q role c cs is idle idle_now =
       | inr other ↦ ap service_of (changed-other q n (with_role role) (λ d. refl) other.1 cs)
     ]
 
--- a connection that was passed over has left
-pub left-given : (n : ℕ) (cs : List Connection) → has_left (connection_of n (changed n (with_role Gone) cs)) ≡ true
-left-given n cs = ap has_left (changed-same n (with_role Gone) (λ d. refl) cs) ∙ by (connection_of n cs)
-  where
-    by : (o : Option Connection) → has_left (option_map (with_role Gone) o) ≡ true
-    by None = refl
-    by (Some c) = refl
-
 -- a connection that was given a role that is no worker's
 pub service-given : (n : ℕ) (role : Role) (cs : List Connection) → service_in role ≡ None → service_of (connection_of n (changed n (with_role role) cs)) ≡ None
 service-given n role cs idle = ap service_of (changed-same n (with_role role) (λ d. refl) cs) ∙ by (connection_of n cs)
@@ -186,12 +152,3 @@ was-there n q f keeps lane cs d is =
     by : (o : Option Connection) → connection_of q cs ≡ o → option_map f o ≡ Some d → WasThere q cs d
     by None e found = absurd (cc found)
     by (Some c) e found = (c, e, sym (lane c) ∙ ap (λ (x : Connection). x.lane) (same-some (f c) d found))
-
--- ---- steps
-
--- a step is what its cause makes of the state before it
-pub step-is : (s : State) (t : Step) → IsStep s t → t ≡ step_of t.cause s
-step-is s t is =
-    ap (λ (x : State). record { cause = t.cause; before = x; after = t.after; outs = t.outs }) is.before
-    ∙ ap (λ (x : State). record { cause = t.cause; before = s; after = x; outs = t.outs }) is.after
-    ∙ ap (λ (x : List Out). record { cause = t.cause; before = s; after = (acts t.cause s).0; outs = x }) is.outs
