@@ -1,7 +1,8 @@
 -- What the calls of a making do, and what a crash in them leaves.
-use Rattle.std.proofs.Common.{◌≡◌, ◌≢◌, ℕ, ◌+◌, ◌<◌, ◌≤◌, ◌^◌, ◌⊎◌, is_some, List, [], ◌∷◌, ◌++◌, length, take, Option, Some, None, refl, sym, ◌∙◌, ap, subst, inl, inr, ⊎_elim, append_assoc, arith, length-append}
+use Rattle.std.proofs.Common.{◌≡◌, ◌≢◌, ℕ, ◌+◌, ◌<◌, ◌≤◌, ◌^◌, ◌⊎◌, is_some, List, [], ◌∷◌, ◌++◌, length, set, take, Option, Some, None, refl, sym, ◌∙◌, ap, subst, inl, inr, ⊎_elim, append_assoc, arith, length-append}
 use Rattle.std.proofs.lemmas.Bool.{cases_eq, cases_lt}
 use Rattle.std.proofs.lemmas.List.{append-nil, nil_from_length}
+use Rattle.std.proofs.Math.ListN.{length-set}
 use Rattle.std.specs.List.{AllByRecursion}
 use Rattle.mj_disk.specs.Content.{Content, IsImage, settled, spliced, touched, Spoils}
 use Rattle.mj_disk.specs.DiskModel.{History, Now, IsSettled, Becomes, Turns, SpoilsAt, LeavesOnly, LeavesOn, CrashesAs}
@@ -43,24 +44,6 @@ stands base end payloads held made =
 
 pub making_ends : (base end : ℕ) (held : Content) → IsMaking base end held → EndsAt end held
 making_ends base end held making = (making_head base, making.0, length-making_head base, stands base end making.0 held making.1, making.1.place)
-
--- a new file
-pub begun_made : (base of end : ℕ) (before after : Option History) → Becomes (λ held. settled (making_head base ++ 0 ∷ [])) before after → is_some after ≡ is_some before → of ≡ base → end ≡ 16 → Now after (IsMade of end [])
-begun_made base of end before after becomes telling base_is end_is history is =
-    let old = told_before before after history telling is in
-    let new = becomes old.0 old.1 in
-    let same : new.0 ≡ history = let e = sym new.1 ∙ is in cc in
-    let held_is : history.now ≡ settled (making_head base ++ 0 ∷ []) = ap (λ (h : History). h.now) (sym same) ∙ new.2 in
-    record {
-      all = tt;
-      is_text = held_is
-          ∙ ap (λ (b : ℕ). settled (making_head b ++ 0 ∷ [])) (sym base_is)
-          ∙ ap (λ (l : List ℕ). settled (l ++ 0 ∷ [])) (sym (append-nil (making_head of)));
-      place = end_is;
-    }
-
-pub made_making : (base end : ℕ) (payloads : List (List ℕ)) (told : Option History) → Now told (IsMade base end payloads) → Now told (IsMaking base end)
-made_making base end payloads told made history is = (payloads, made history is)
 
 -- ---- appending
 
@@ -120,33 +103,31 @@ settled_kept before after kept old is = let new = kept old is in (new.0, new.1, 
 nothing : (octets : List ℕ) (size : ℕ) → size ≡ length octets → size ≤ 0 → octets ≡ []
 nothing octets size sized none = nil_from_length octets (omega (arith, sized, none))
 
--- the first bytes, whole or spoiled
-pub spoiled_kept : (size : ℕ) (before mid after : Option History) → size ≤ 0 → Turns IsUntouched before mid → Now before (λ held. size ≡ length held.octets) → Turns (SpoilsAt 0 17) mid after → Turns KeepsUnlessEmpty before after
-spoiled_kept size before mid after none kept sized spoils old is =
+-- the first bytes
+pub first_few : (base : ℕ) (file : List ℕ) → file ≡ header_2 base ++ 0 ∷ [] → length (set file 0 0) ≤ 17
+first_few base file is =
+    omega (arith, length-set {A = ℕ}, ap (λ (l : List ℕ). length l) is, length-append (header_2 base) (0 ∷ []), length-base_octets base)
+
+-- and where they were spoiled
+pub spoiled_kept : (size n : ℕ) (before mid after : Option History) → size ≤ 0 → n ≤ 17 → Turns IsUntouched before mid → Now before (λ held. size ≡ length held.octets) → Turns (SpoilsAt 0 n) mid after → Turns KeepsUnlessEmpty before after
+spoiled_kept size n before mid after none few kept sized spoils old is =
     let held = kept old is in
     let new = spoils held.0 held.1 in
     let empty = nothing old.now.octets size (sized old is) none in
     let same : length held.0.now.octets ≡ 0 = ap (λ (l : List ℕ). length l) (held.2 ∙ empty) in
     (new.0, new.1, inr (empty, omega (arith, new.2.no_longer)))
 
-pub written_kept : (base size : ℕ) (before after : Option History) → size ≤ 0 → Now before (λ held. size ≡ length held.octets) → Becomes (λ held. settled (making_head base ++ 0 ∷ [])) before after → Turns KeepsUnlessEmpty before after
-written_kept base size before after none sized becomes old is =
-    let new = becomes old is in
-    let octets : new.0.now.octets ≡ making_head base ++ 0 ∷ [] = ap (λ (c : Content). c.octets) new.2 in
-    let little : length new.0.now.octets ≤ 17 = omega (arith, ap (λ (l : List ℕ). length l) octets, length-append (making_head base) (0 ∷ []), length-base_octets base) in
-    (new.0, new.1, inr (nothing old.now.octets size (sized old is) none, little))
-
 pub settled_leaves : (moments : ℕ × ℕ) (before after : Option History) → CrashesAs IsImage moments before after → CrashesAs IsImageOrFirst moments before after
 settled_leaves moments before after crash old is =
     leaves_weaker moments before after _ _ (crash old is) (λ image left. inl left)
 
-pub begun_leaves : (size start middle last : ℕ) (before mid after : Option History) → size ≤ 0 → CrashesAs IsImage (start, middle) before mid → Becomes (λ held. settled held.octets) before mid → Now before (λ held. size ≡ length held.octets) → CrashesAs (λ held. IsImage (touched 0 17 held)) (middle, last) mid after → CrashesAs IsImageOrFirst (start, last) before after
-begun_leaves size start middle last before mid after none crash becomes sized made old is =
+pub begun_leaves : (size n start middle last : ℕ) (before mid after : Option History) → size ≤ 0 → n ≤ 17 → CrashesAs IsImage (start, middle) before mid → Becomes (λ held. settled held.octets) before mid → Now before (λ held. size ≡ length held.octets) → CrashesAs (λ held. IsImage (touched 0 n held)) (middle, last) mid after → CrashesAs IsImageOrFirst (start, last) before after
+begun_leaves size n start middle last before mid after none few crash becomes sized made old is =
     let held = becomes old is in
     let empty = nothing old.now.octets size (sized old is) none in
     let so_far = settled_leaves (start, middle) before mid crash old is in
     then_leaves start middle last before mid after (IsImageOrFirst old.now) _ so_far (made held.0 held.1) (λ image left.
-    let moved = subst (λ (c : Content). IsImage (touched 0 17 c) image) held.2 left in
+    let moved = subst (λ (c : Content). IsImage (touched 0 n c) image) held.2 left in
     let same : length old.now.octets ≡ 0 = ap (λ (l : List ℕ). length l) empty in
     inr (empty, omega (arith, moved.no_longer)))
 

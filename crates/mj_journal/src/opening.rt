@@ -120,6 +120,7 @@ impl Opening {
         ensures base { self.new.base ≡ self.old.base }
         ensures size { self.new.size ≡ self.old.size }
         ensures same { D.told disk.new ≡ D.told disk.old }
+        ensures telling { is_some (D.told disk.new) ≡ is_some (D.told disk.old) }
         ensures settled { OnOk result (D.settled_now disk.old → D.settled_now disk.new) }
         ensures unfailed { OnOk result (D.failed disk.new ≡ D.failed disk.old) }
         ensures later { D.time disk.old ≤ D.time disk.new }
