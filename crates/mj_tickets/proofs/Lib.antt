@@ -1,0 +1,12 @@
+pub mod OnLiterals
+pub mod RisingLemmas
+pub mod EntryLemmas
+pub mod ListingLemmas
+pub mod TicketLemmas
+pub mod KeptLemmas
+pub mod FrameLemmas
+pub mod LengthLemmas
+pub mod AgainLemmas
+pub mod SpelledLemmas
+pub mod FoldLemmas
+pub mod MapLemmas
