@@ -1,5 +1,5 @@
 //! What one message does, row by row (ZeroMQ RFC 7; RFC 8 for names that begin with `mmi.`).
-ghost use Rattle.std.specs.Prelude.{◌≡◌, OnOk, IfOk, if◌then◌else◌, codes};
+ghost use Rattle.std.specs.Prelude.{◌≡◌, ℕ, OnOk, IfOk, if◌then◌else◌, codes};
 ghost use Rattle.std.specs.Str.{bytes_eq};
 ghost use Rattle.mj_machine.specs.Acts.{quiet};
 ghost use Rattle.mj_machine.specs.Leaving.{goes};
@@ -64,9 +64,7 @@ fn say_as(
         Role::Gone => Ok(()),
         Role::Fresh => say_fresh(alloc, routing, lane, number, said, outs),
         Role::Client => say_client(alloc, routing, lane, number, said, outs),
-        Role::Worker(registration) => {
-            say_worker(alloc, routing, lane, number, registration, said, outs)
-        }
+        Role::Worker(registration) => say_worker(alloc, routing, number, registration, said, outs),
     }
 }
 
@@ -113,20 +111,19 @@ fn say_client(
 fn say_worker(
     alloc: Global,
     routing: &mut Routing,
-    lane: u32,
     number: u64,
     registration: Registration,
     said: Said,
     outs: &mut Vec<Out>,
 ) -> Result<(), NoMemory>
-    ensures { OnOk result (Does routing.new outs.old.items outs.new.items (says lane number (Role.Worker registration) said routing.old)) }
+    ensures { OnOk result ((lane : ℕ) → Does routing.new outs.old.items outs.new.items (says lane number (Role.Worker registration) said routing.old)) }
 {
     match said {
         Said::Neither => {
             routing.go(number);
             Ok(())
         }
-        Said::Asks(_cmd) => { refuse(alloc, routing, number, voice_at(&registration), outs) }
+        Said::Asks(_cmd) => refuse(alloc, routing, number, voice_at(&registration), outs),
         Said::Serves(cmd) => work(alloc, routing, number, registration, cmd, outs),
     }
 }

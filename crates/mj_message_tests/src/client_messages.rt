@@ -1,8 +1,8 @@
+use mj_base::{Frames, NoMemory, Version};
 use mj_client_cmd::{
     read_client, read_reply, replies_are_one_to_one, requests_are_one_to_one, write_client,
     write_reply,
 };
-use mj_base::{Frames, NoMemory, Version};
 use std::alloc::Global;
 use std::test::Fail;
 

@@ -1,8 +1,8 @@
+use mj_base::{Frames, NoMemory, Version};
 use mj_worker_cmd::{
     orders_are_one_to_one, read_order, read_worker, worker_commands_are_one_to_one, write_order,
     write_worker,
 };
-use mj_base::{Frames, NoMemory, Version};
 use std::alloc::Global;
 use std::test::Fail;
 

@@ -1,7 +1,7 @@
 ghost use Rattle.std.specs.Prelude.{◌≡◌, ◌+◌, ◌<◌, ◌≤◌, ◌^◌, OnOk, length};
 
-use mj_broker::Broker;
 use mj_base::{Event, Limits, Octets, Out, Reason};
+use mj_broker::Broker;
 use std::alloc::Global;
 use std::test::Fail;
 

@@ -1,5 +1,5 @@
-use mj_queue::{AskFault, Hall, Origin, Request};
 use mj_base::{Frames, Limits, Name, Version};
+use mj_queue::{AskFault, Hall, Origin, Request};
 use std::alloc::Global;
 use std::test::Fail;
 

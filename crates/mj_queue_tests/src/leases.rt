@@ -1,5 +1,5 @@
-use mj_lease::Leases;
 use mj_base::NoMemory;
+use mj_lease::Leases;
 use std::alloc::Global;
 use std::test::Fail;
 

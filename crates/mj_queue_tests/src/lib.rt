@@ -2,6 +2,6 @@
 #![tactic(auto)]
 
 #[cfg(test)]
-mod leases;
-#[cfg(test)]
 mod hall;
+#[cfg(test)]
+mod leases;

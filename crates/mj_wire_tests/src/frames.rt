@@ -1,8 +1,8 @@
+use mj_base::{Frames, NoMemory, Octets};
 use mj_frame::{
     Head, HeadAnswer, every_head_is_read, frames_end_once, read_head, write_frame, write_message,
     written_is_read,
 };
-use mj_base::{Frames, NoMemory, Octets};
 use std::alloc::Global;
 use std::test::Fail;
 

@@ -1,5 +1,5 @@
-use mj_handshake::{SocketType, one_list, read_ready, write_ready, written_is_read};
 use mj_base::{Octets, Reason};
+use mj_handshake::{SocketType, one_list, read_ready, write_ready, written_is_read};
 use std::test::Fail;
 
 #[test]

@@ -1,6 +1,6 @@
-use mj_wire::{Wire, WireItem, items_stay, longest_cut_is_read, no_cut_is_read};
 use mj_base::{Frames, Limits, Octets};
 use mj_greeting::broker_greeting;
+use mj_wire::{Wire, WireItem, items_stay, longest_cut_is_read, no_cut_is_read};
 use std::alloc::{AllocError, Global};
 use std::process::Abort;
 use std::test::Fail;
