@@ -1,5 +1,5 @@
 use mj_base::Reason;
-use mj_greeting::{GreetingFault, broker_greeting, greeting_fault, read_greeting};
+use mj_greeting::{Greeting, GreetingFault, broker_greeting, greeting_fault, read_greeting};
 
 const SENT: &[u8; 64] =
     b"\xff\0\0\0\0\0\0\0\0\x7f\x03\0NULL\0\0\0\0\0\0\0\0\0\0\0\0\0\0\0\0\0\0\0\0\0\0\0\0\0\0\0\0\0\0\0\0\0\0\0\0\0\0\0\0\0\0\0\0\0\0\0\0";
