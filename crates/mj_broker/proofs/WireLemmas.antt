@@ -16,6 +16,8 @@ use Rattle.mj_machine.specs.MachineState.{Stream}
 use Rattle.mj_machine.specs.Connections.{connection_of}
 use Rattle.mj_machine.specs.EventStep.{fed, longer, stream_of}
 use Rattle.mj_machine.proofs.ConnectionLemmas.{agrees, differs, equal}
+use Rattle.mj_routing.specs.Keyed.{IsPlaceIn}
+use Rattle.mj_routing.proofs.KeyedLemmas.{place-in}
 use Rattle.mj_broker.specs.declared.wires.Link.{Link}
 use Rattle.mj_broker.specs.Wires.{AreFresh, IsLinkAt, IsLinkOf, MayBeFed, SameNumbers, WireStands, WiresStand, kept_links, rewired, stream_found, wire_of}
 
@@ -24,48 +26,13 @@ test n l = l.number == n
 
 -- ---- the place of a reader
 
-abbrev IsFirst : ℕ → List Link → ℕ → Type 0
-IsFirst n ls at = (l : Link) × IsLinkOf n ls at l
-
-first-there : (n : ℕ) (l : Link) (ls : List Link) → (l.number == n) ≡ true → IsFirst n (l ∷ ls) zero
-first-there n l ls e = (l, record { here = refl; found = rw e refl; rewired_is = λ w. rw e refl })
-
-first-behind : (n : ℕ) (l : Link) (ls : List Link) (at : ℕ) → (l.number == n) ≡ false → IsFirst n ls at → IsFirst n (l ∷ ls) (suc at)
-first-behind n l ls at e is = (
-  is.0,
-  record {
-    here = is.1.here;
-    found = rw e is.1.found;
-    rewired_is = λ w. rw e (ap (λ (xs : List Link). l ∷ xs) (is.1.rewired_is w));
-  },
-)
-
-first : (n : ℕ) (ls : List Link) → position_or_len (test n) ls < length ls → IsFirst n ls (position_or_len (test n) ls)
-first n [] some = absurd (omega arith)
-first n (l ∷ ls) some = by (l.number == n) refl some (first n ls)
-  where
-    by : (b : Bool) → (l.number == n) ≡ b → cond (not b) (1 + position_or_len (test n) ls) 0 < suc (length ls)
-        → (position_or_len (test n) ls < length ls → IsFirst n ls (position_or_len (test n) ls)) → IsFirst n (l ∷ ls) (cond (not b) (1 + position_or_len (test n) ls) 0)
-    by true e h rest = first-there n l ls e
-    by false e h rest =
-        let one_more : 1 + position_or_len (test n) ls ≡ suc (position_or_len (test n) ls) = omega arith in
-        subst (λ (at : ℕ). IsFirst n (l ∷ ls) at) (sym one_more) (first-behind n l ls (position_or_len (test n) ls) e (rest (omega arith)))
-
-none : (n : ℕ) (ls : List Link) → length ls ≤ position_or_len (test n) ls → wire_of n ls ≡ None
-none n [] over = refl
-none n (l ∷ ls) over = by (l.number == n) refl over (none n ls)
-  where
-    by : (b : Bool) → (l.number == n) ≡ b → suc (length ls) ≤ cond (not b) (1 + position_or_len (test n) ls) 0
-        → (length ls ≤ position_or_len (test n) ls → wire_of n ls ≡ None) → wire_of n (l ∷ ls) ≡ None
-    by true e h rest = absurd (omega arith)
-    by false e h rest = rw e (rest (omega arith))
+link-of : (n : ℕ) (ls : List Link) (place : Option ℕ) → IsPlaceIn (λ l. l.number) n ls place → IsLinkAt n ls place
+link-of n ls None is = ap (option_map (λ (l : Link). l.wire)) is.none
+link-of n ls (Some at) is =
+    (is.0, record { here = is.1.here; found = ap (option_map (λ (l : Link). l.wire)) is.1.found; rewired_is = λ wire. is.1.changed_is (λ l. record l { wire = wire }) })
 
 pub link-place : (n : ℕ) (ls : List Link) → IsLinkAt n ls (position (test n) ls)
-link-place n ls = of (nat_lt (position_or_len (test n) ls) (length ls)) refl
-  where
-    of : (b : Bool) → nat_lt (position_or_len (test n) ls) (length ls) ≡ b → IsLinkAt n ls (cond b (Some (position_or_len (test n) ls)) None)
-    of true e = first n ls (grind (arith, nat_tests))
-    of false e = none n ls (grind (arith, nat_tests))
+link-place n ls = link-of n ls _ (place-in (λ l. l.number) n ls)
 
 -- the reader at that place, and the list with another one there
 pub record IsFed (n : ℕ) (ls : List Link) (at : ℕ) (l : Link) : Type 0 where

@@ -8,6 +8,7 @@ use Rattle.mj_wire.specs.WireState.{StandsFor}
 use Rattle.mj_machine.specs.declared.connection.Connection.{Connection}
 use Rattle.mj_machine.specs.MachineState.{Stream}
 use Rattle.mj_machine.specs.Connections.{connection_of}
+use Rattle.mj_routing.specs.Keyed.{changed_by}
 use Rattle.mj_broker.specs.declared.wires.Link.{Link}
 
 abbrev pub wire_of : ℕ → List Link → Option WireValue
@@ -42,8 +43,7 @@ kept_links connections links = filter (λ l. is_some (connection_of l.number con
 
 -- the reader of this number in place of the first one
 abbrev pub rewired : ℕ → WireValue → List Link → List Link
-rewired n wire [] = []
-rewired n wire (l ∷ ls) = if l.number == n then record l { wire = wire } ∷ ls else l ∷ rewired n wire ls
+rewired n wire links = changed_by (λ l. l.number) n (λ l. record l { wire = wire }) links
 
 pub record IsLinkOf (n : ℕ) (links : List Link) (at : ℕ) (l : Link) : Type 0 where
   pub here : slice_get links at ≡ Some l

@@ -1,3 +1,4 @@
+pub mod KeyedLemmas
 pub mod PlaceLemmas
 pub mod DeadlineLemmas
 pub mod KeptLemmas
