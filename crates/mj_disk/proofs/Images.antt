@@ -2,8 +2,8 @@
 use Rattle.std.proofs.Common.{◌≡◌, ℕ, ◌+◌, ◌<◌, ◌≤◌, List, [], ◌∷◌, ◌++◌, length, get_or, take, drop, sym, ◌∙◌, ap, inl, inr, arith, append_assoc, length-append, length-drop, take-append-drop}
 use Rattle.std.proofs.lemmas.List.{take_at, drop_at, drop_more, drop-drop, ext_get_or, get_or-take, get_or-drop, length-take-le}
 use Rattle.mj_disk.specs.Content.{Content, IsImage, settled, spliced, touched, written, Spoils}
-use Rattle.mj_disk.specs.DiskModel.{Touches, SpoilsAt}
-use Rattle.mj_disk.specs.Laws.{InNone-front, length-spliced}
+use Rattle.mj_disk.specs.DiskModel.{Touches}
+use Rattle.mj_disk.specs.Laws.{InNone-front}
 
 -- the only image of what is synced is what a read gives
 pub settled_is : (octets image : List ℕ) → IsImage (settled octets) image → image ≡ octets
@@ -102,20 +102,6 @@ spliced_at front x rest y at place =
     ap (λ (l : List ℕ). l ++ (y ∷ []) ++ drop (at + 1) (front ++ x ∷ rest)) start
     ∙ ap (λ (l : List ℕ). front ++ (y ∷ []) ++ l) end
     ∙ append_assoc front (y ∷ []) rest
-
--- a write spoils no more than its range
-pub written_spoils : (at : ℕ) (octets : List ℕ) (held : Content) → at ≤ length held.octets → SpoilsAt at (length octets) held (written at octets held)
-written_spoils at octets held inside =
-    let front : length (take at held.octets) ≡ at = length-take-le at held.octets inside in
-    let seam : length (take at held.octets ++ octets) ≡ at + length octets = omega (arith, length-append (take at held.octets) octets) in
-    let sized = length-spliced at octets held.octets in
-    let rest = length-drop (at + length octets) held.octets in
-    record {
-      before = ap (λ (l : List ℕ). take at l) (append_assoc (take at held.octets) octets (drop (at + length octets) held.octets)) ∙ take_at (take at held.octets) (octets ++ drop (at + length octets) held.octets) at front;
-      behind = drop_at (take at held.octets ++ octets) (drop (at + length octets) held.octets) (at + length octets) seam;
-      no_shorter = omega arith;
-      no_longer = omega arith;
-    }
 
 -- a failed write behind a byte leaves all up to that byte, and one of one byte all but that byte
 pub spoiled_behind : (front : List ℕ) (x : ℕ) (rest : List ℕ) (at n : ℕ) (new : List ℕ) → at ≡ length front + 1 → Spoils at n (front ++ x ∷ rest) new → new ≡ front ++ x ∷ drop at new

@@ -1,8 +1,8 @@
 -- How what a crash may leave goes on over a run of calls.
-use Rattle.std.proofs.Common.{◌≡◌, ℕ, ◌<◌, ◌≤◌, ◌⊎◌, List, [], ◌∷◌, length, true, false, Option, Some, None, is_some, sym, ◌∙◌, ap, subst, inl, inr, ⊎_elim, refl, arith}
-use Rattle.mj_disk.specs.Content.{Content, IsImage, written, settled}
-use Rattle.mj_disk.specs.DiskModel.{History, Becomes, Turns, SpoilsAt, changed, EndedSince, LeftSince, latest, Changes, Syncs, LeavesOnly, LeavesOn}
-use Rattle.mj_disk.proofs.Images.{settled_is, written_spoils}
+use Rattle.std.proofs.Common.{◌≡◌, ℕ, ◌<◌, ◌≤◌, ◌⊎◌, List, [], ◌∷◌, true, false, Option, Some, None, is_some, sym, ◌∙◌, ap, subst, inl, inr, ⊎_elim, refl, arith}
+use Rattle.mj_disk.specs.Content.{Content, IsImage}
+use Rattle.mj_disk.specs.DiskModel.{History, changed, EndedSince, LeftSince, latest, Changes, Syncs, LeavesOnly, LeavesOn}
+use Rattle.mj_disk.proofs.Images.{settled_is}
 
 none_since : (past : List (ℕ × Content)) (moment : ℕ) (image : List ℕ) → latest past ≤ moment → EndedSince past moment image → ⊥
 none_since [] moment image le ended = ended
@@ -109,13 +109,6 @@ changes_by how start moment end held new next new_is end_is later how_is history
     (λ (h : History). (Some new ≡ Some h) ⊎ ((x : Content) × (Some new ≡ Some (changed end x h)) × (start < end) × how h.now x))
     same
     (inr (next, ap (λ (h : History). Some h) timed, rises, how_is))
-
--- a write whose bytes a failed sync left unsynced
-pub spoiled_by : (at n : ℕ) (octets : List ℕ) (before mid after : Option History) → ((history : History) → before ≡ Some history → at ≤ length history.now.octets) → n ≡ length octets → Becomes (written at octets) before mid → after ≡ mid → Turns (SpoilsAt at n) before after
-spoiled_by at n octets before mid after inside sized becomes same old is =
-    let held = becomes old is in
-    let spoils = subst (λ (c : Content). SpoilsAt at (length octets) old.now c) (sym held.2) (written_spoils at octets old.now (inside old is)) in
-    (held.0, same ∙ held.1, subst (λ (k : ℕ). SpoilsAt at k old.now held.0.now) (sym sized) spoils)
 
 -- a disk that doesn't tell leaves no images
 pub rests : (moments : ℕ × ℕ) (old new : Option History) (P : List ℕ → Type 0) → old ≡ None → is_some new ≡ is_some old → moments.0 ≤ moments.1 → LeavesOnly moments old new P

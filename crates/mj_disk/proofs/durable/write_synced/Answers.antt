@@ -1,9 +1,8 @@
-use Rattle.std.proofs.Common.{length, refl}
-use Rattle.std.proofs.lemmas.Result.{on_err_weaker}
+use Rattle.std.proofs.Common.{length}
 use Rattle.mj_disk.specs.Content.{IsImage, touched}
 use Rattle.mj_disk.specs.DiskModel.{Touches}
 use Rattle.mj_disk.proofs.Images.{touched_more}
-use Rattle.mj_disk.proofs.Moments.{started, goes_on, synced_on, spoiled_by}
+use Rattle.mj_disk.proofs.Moments.{started, goes_on, synced_on}
 use Rattle.mj_disk.proofs.durable.write_synced.Goals as goal
 
 pub returns-in_err-write-clause-crash : goal.returns-in_err-write-clause-crash
@@ -19,9 +18,3 @@ returns-clause-crash g c history is =
     let behind = goes_on (Touches c.args.at (length c.args.octets.now)) _ _ _ _ _ _ history P at_start is c.write.ensures.crash c.write.ensures.later (λ next image how now. how.none_more image now) in
     let mid = c.in_ok-write.ensures.written history is in
     synced_on _ _ _ _ _ _ mid.0 P behind mid.1 (g.met.D.Disk.reads_image c.write.new.self mid.0 mid.1) c.sync.ensures.crash c.sync.ensures.later
-
-pub returns-clause-spoiled : goal.returns-clause-spoiled
-returns-clause-spoiled g c =
-    on_err_weaker c.sync.result
-    (λ same. spoiled_by c.args.at (length c.args.octets.now) c.args.octets.now _ _ _ c.requires refl c.in_ok-write.ensures.written same)
-    c.sync.ensures.unsynced
