@@ -15,30 +15,13 @@ use Rattle.mj_machine.proofs.AbsentLemmas.{IsNoOpening, absent-happens, absent-o
 use Rattle.mj_machine.proofs.NextLemmas.{next-happens, next-opens}
 use Rattle.mj_machine.proofs.ConnectionLemmas.{equal}
 use Rattle.mj_broker.specs.declared.wires.Link.{Link}
+use Rattle.mj_machine.proofs.StreamLemmas.{there-on}
 use Rattle.mj_broker.specs.BrokerState.{AreReady, AreSettled, BrokerValue, IsAt, IsStep}
 use Rattle.mj_routing.specs.RoutingState.{Does}
 use Rattle.mj_broker.specs.Wires.{AreFresh, MayBeFed, SameNumbers, WiresStand, kept_links, wire_of}
 use Rattle.mj_broker.proofs.WireLemmas.{fresh-kept, kept-wire, wires-kept}
 
--- the lane's connection is there
-pub there-on : (lane n : ℕ) (cs : List Connection) → number_on lane cs ≡ Some n → connection_of n cs ≢ None
-there-on lane n [] e = λ none. cc
-there-on lane n (c ∷ cs) e = by (c.lane == lane) refl e (there-on lane n cs)
-  where
-    first : (b : Bool) → (c.number == n) ≡ b → c.number ≡ n → cond {A = Option Connection} b (Some c) (connection_of n cs) ≢ None
-    first true t same = λ none. cc
-    first false t same = let yes : (c.number == n) ≡ true = rw same (equal n) in cc
-
-    behind : (b : Bool) → connection_of n cs ≢ None → cond {A = Option Connection} b (Some c) (connection_of n cs) ≢ None
-    behind true some = λ none. cc
-    behind false some = some
-
-    by : (b : Bool) → (c.lane == lane) ≡ b → option_map (λ d. d.number) (cond {A = Option Connection} b (Some c) (connection_on lane cs)) ≡ Some n
-        → (number_on lane cs ≡ Some n → connection_of n cs ≢ None) → connection_of n (c ∷ cs) ≢ None
-    by true is found rest = let same : c.number ≡ n = cc in first (c.number == n) refl same
-    by false is found rest = behind (c.number == n) (rest found)
-
--- so it has a reader
+-- the lane's connection has a reader
 pub wire-there : (lane n : ℕ) (cs : List Connection) (wires : List Link) → AreReady cs wires → number_on lane cs ≡ Some n → IsSome (wire_of n wires)
 wire-there lane n cs wires k on = of (wire_of n wires) refl
   where

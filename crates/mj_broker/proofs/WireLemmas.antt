@@ -16,6 +16,7 @@ use Rattle.mj_machine.specs.MachineState.{Stream}
 use Rattle.mj_machine.specs.Connections.{connection_of}
 use Rattle.mj_machine.specs.EventStep.{fed, longer, stream_of}
 use Rattle.mj_machine.proofs.ConnectionLemmas.{agrees, differs, equal}
+use Rattle.mj_machine.proofs.StreamLemmas.{fed-other, fed-same}
 use Rattle.mj_routing.specs.Keyed.{IsPlaceIn}
 use Rattle.mj_routing.proofs.KeyedLemmas.{place-in}
 use Rattle.mj_broker.specs.declared.wires.Link.{Link}
@@ -69,27 +70,6 @@ rewired-other n q wire apart (l ∷ ls) = by (l.number == n) refl (rewired-other
         else : (b : Bool) → option_map (λ k. k.wire) (cond {A = Option Link} b (Some l) (find (test q) (rewired n wire ls))) ≡ option_map (λ k. k.wire) (cond {A = Option Link} b (Some l) (find (test q) ls))
         else true = refl
         else false = rest
-
--- ---- one stream fed
-
-fed-same : (n : ℕ) (piece : List ℕ) (ts : List Stream) → stream_found n (fed n piece ts) ≡ option_map (longer piece) (stream_found n ts)
-fed-same n piece [] = refl
-fed-same n piece (t ∷ ts) = by (t.number == n) refl (fed-same n piece ts)
-  where
-    by : (b : Bool) → (t.number == n) ≡ b → stream_found n (fed n piece ts) ≡ option_map (longer piece) (stream_found n ts)
-        → stream_found n (cond {A = List Stream} b (longer piece t ∷ ts) (t ∷ fed n piece ts)) ≡ option_map (longer piece) (cond {A = Option Stream} b (Some t) (stream_found n ts))
-    by true e rest = rw e refl
-    by false e rest = rw e rest
-
-fed-other : (n q : ℕ) (piece : List ℕ) → q ≢ n → (ts : List Stream) → stream_found q (fed n piece ts) ≡ stream_found q ts
-fed-other n q piece apart [] = refl
-fed-other n q piece apart (t ∷ ts) = by (t.number == n) refl (fed-other n q piece apart ts)
-  where
-    by : (b : Bool) → (t.number == n) ≡ b → stream_found q (fed n piece ts) ≡ stream_found q ts → stream_found q (cond {A = List Stream} b (longer piece t ∷ ts) (t ∷ fed n piece ts)) ≡ stream_found q (t ∷ ts)
-    by true e rest =
-        let no : (t.number == q) ≡ false = differs t.number q (λ same. apart (sym same ∙ agrees t.number n e)) in
-        rw no refl
-    by false e rest = ap (λ (o : Option Stream). cond (t.number == q) (Some t) o) rest
 
 -- ---- a reader fed
 
