@@ -4,7 +4,7 @@ use Rattle.std.proofs.lemmas.List.{append-nil, drop_more, drop_all, take_at}
 use Rattle.mj_disk.specs.Content.{Content, IsImage, settled, touched}
 use Rattle.mj_disk.specs.DiskModel.{History, Now, Becomes, Turns, SpoilsAt, CrashesAs}
 use Rattle.mj_disk.proofs.Moments.{leaves_weaker, then_leaves, still, told_before}
-use Rattle.mj_journal.specs.FileText.{header_2, IsHeader, IsEmptyStore, IsShort, IsLittle, OpensAs, StandsFor, Stands, spelled, end_of}
+use Rattle.mj_journal.specs.FileText.{header_2, IsHeader, IsEmptyStore, IsShort, OpensAs, StandsFor, Stands, spelled, end_of}
 use Rattle.mj_journal.specs.Opening.{IsBegun, IsKeptOrMade, IsReadTo, IsUntouched, KeepsFile, Begins, IsEmptyWith, IsImageOrOpensAlike}
 use Rattle.mj_journal.proofs.Files.{length-header, length-front, length-base_octets}
 use Rattle.mj_journal.proofs.Headers.{decide_empty, empty_front}

@@ -1,16 +1,15 @@
 -- What the calls of a making do, and what a crash in them leaves.
-use Rattle.std.proofs.Common.{◌≡◌, ◌≢◌, ℕ, ◌+◌, ◌<◌, ◌≤◌, ◌^◌, ◌⊎◌, is_some, List, [], ◌∷◌, ◌++◌, length, set, take, Option, Some, None, refl, sym, ◌∙◌, ap, subst, inl, inr, ⊎_elim, append_assoc, arith, length-append}
+use Rattle.std.proofs.Common.{◌≡◌, ℕ, ◌+◌, ◌≤◌, ◌^◌, is_some, List, [], ◌∷◌, ◌++◌, length, set, take, Option, Some, None, refl, sym, ◌∙◌, ap, subst, inl, inr, ⊎_elim, append_assoc, arith, length-append}
 use Rattle.std.proofs.lemmas.Bool.{cases_eq, cases_lt}
-use Rattle.std.proofs.lemmas.List.{append-nil, nil_from_length}
+use Rattle.std.proofs.lemmas.List.{nil_from_length}
 use Rattle.std.proofs.Math.ListN.{length-set}
 use Rattle.std.specs.List.{AllByRecursion}
 use Rattle.mj_disk.specs.Content.{Content, IsImage, settled, spliced, touched, Spoils}
 use Rattle.mj_disk.specs.DiskModel.{History, Now, IsSettled, Becomes, Turns, SpoilsAt, LeavesOnly, LeavesOn, CrashesAs}
 use Rattle.mj_disk.proofs.Images.{settled_is, image_at, spliced_at, spoiled_at}
 use Rattle.mj_disk.proofs.Moments.{leaves_weaker, leaves_on, then_leaves, told_before, rests, still}
-use Rattle.mj_journal.specs.declared.fault.OpenFault.TheVariants.{NotAStore}
-use Rattle.mj_journal.specs.FileText.{base_octets, header_2, IsPayload, spelled, Stands, StandsFor, text_blocks, text, end_of}
-use Rattle.mj_journal.specs.Opening.{IsNoHeader, IsRefused, IsUntouched}
+use Rattle.mj_journal.specs.FileText.{base_octets, header_2, IsPayload, spelled, Stands, text_blocks, text}
+use Rattle.mj_journal.specs.Opening.{IsNoHeader, IsUntouched}
 use Rattle.mj_journal.specs.Appending.{EndsAt, AppendsText, StandsForEither, LeavesEither, CrashesOldOrNew}
 use Rattle.mj_journal.specs.Making.{making_head, IsMade, IsMaking, IsUnfinished, IsWholeStore, IsFinished, IsUnfinishedOrWhole, IsImageOrFirst, KeepsUnlessEmpty, BeginsUnfinished, Grows, Finishes, ReadsUnfinishedOrWhole, FinishesOrNot}
 use Rattle.mj_journal.proofs.Files.{length-base_octets, length-header, end_of-push}

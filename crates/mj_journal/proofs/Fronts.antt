@@ -1,5 +1,5 @@
 -- Records that stand in front of others: which list the bytes behind them are.
-use Rattle.std.proofs.Common.{◌≡◌, ◌≢◌, ℕ, ◌≤◌, ◌^◌, List, [], ◌∷◌, ◌++◌, length, map, take, drop, get_or, refl, sym, ◌∙◌, ap, arith, append_assoc}
+use Rattle.std.proofs.Common.{◌≡◌, ◌≢◌, ℕ, ◌≤◌, List, [], ◌∷◌, ◌++◌, length, map, take, drop, get_or, refl, sym, ◌∙◌, ap, arith, append_assoc}
 use Rattle.std.proofs.lemmas.List.{take_at, drop_at, append-nil}
 use Rattle.mj_journal.specs.FileText.{IsPayload, length_octets, Block, spelled, AllOpen, payload_of}
 use Rattle.mj_journal.proofs.Files.{length-length_octets}

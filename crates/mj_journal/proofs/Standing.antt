@@ -1,13 +1,13 @@
 -- What is known of a file that stands for a list: it isn't refused, what was read of it is its front, and each payload
 -- stands at its place.
-use Rattle.std.proofs.Common.{◌≡◌, ◌≢◌, ℕ, ◌+◌, ◌<◌, ◌≤◌, List, [], ◌∷◌, ◌++◌, length, map, take, drop, get_or, refl, sym, ◌∙◌, ap, subst, arith, append_assoc, length-append}
+use Rattle.std.proofs.Common.{◌≡◌, ◌≢◌, ℕ, ◌+◌, ◌<◌, ◌≤◌, List, [], ◌∷◌, ◌++◌, length, map, take, drop, refl, sym, ◌∙◌, ap, subst, arith, append_assoc, length-append}
 use Rattle.std.proofs.lemmas.List.{take_at, drop_at}
 use Rattle.mj_disk.specs.Content.{Content}
 use Rattle.mj_journal.specs.declared.fault.OpenFault.TheVariants.{NotAStore, Version}
 use Rattle.mj_journal.specs.FileText.{IsHeader, length_octets, Block, spelled, payload_of, Stands, StandsFor, sizes, end_of}
-use Rattle.mj_journal.specs.Opening.{ReadTo, IsWhole, IsDamagedAt, IsRefused}
+use Rattle.mj_journal.specs.Opening.{ReadTo, IsDamagedAt, IsRefused}
 use Rattle.mj_journal.specs.Appending.{EndsAt}
-use Rattle.mj_journal.proofs.Files.{length-header, length-front, length-length_octets, length-spelled, end_of-push}
+use Rattle.mj_journal.proofs.Files.{length-header, length-front, length-length_octets, end_of-push}
 use Rattle.mj_journal.proofs.Fronts.{Behind, stand_in_front, whole_behind}
 use Rattle.mj_journal.proofs.Headers.{version_no_header}
 use Rattle.mj_journal.proofs.Reading.{mark_is, behind_is}

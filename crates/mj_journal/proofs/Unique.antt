@@ -2,7 +2,7 @@
 use Rattle.std.proofs.Common.{◌≡◌, ◌≢◌, ℕ, ◌≤◌, ◌^◌, List, [], ◌∷◌, ◌++◌, length, map, take, drop, get_or, refl, sym, ◌∙◌, ap, subst, inl, inr, arith, append_assoc, length-append}
 use Rattle.std.proofs.lemmas.List.{take_at, drop_at, append-nil, nil_from_length}
 use Rattle.std.specs.List.{AllByRecursion}
-use Rattle.mj_journal.specs.FileText.{name, base_octets, IsHeader, IsPayload, length_octets, Block, spelled, AllOpen, payload_of, Stands, StandsFor, IsEmptyStore, Opens, sizes, text_blocks, text}
+use Rattle.mj_journal.specs.FileText.{name, base_octets, IsHeader, IsPayload, Block, spelled, AllOpen, payload_of, Stands, StandsFor, IsEmptyStore, Opens, sizes, text_blocks, text}
 use Rattle.mj_journal.specs.Opening.{IsNoHeader}
 use Rattle.mj_journal.specs.Making.{making_head}
 use Rattle.mj_journal.proofs.Files.{length-header, length-spelled, text_blocks-holds}

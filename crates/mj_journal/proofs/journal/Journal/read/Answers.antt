@@ -1,4 +1,4 @@
-use Rattle.std.proofs.Common.{◌+◌, ◌≤◌, length, arith}
+use Rattle.std.proofs.Common.{◌≤◌, length, arith}
 use Rattle.mj_journal.proofs.Appends.{reaches}
 use Rattle.mj_journal.proofs.journal.Journal.read.Goals as goal
 
