@@ -57,10 +57,11 @@ impl Tickets {
         }
     }
 
-    /// Makes room for one lawful command.
+    /// Makes room for one lawful command. None is made where there is some.
     pub fn reserve(&mut self) -> Result<(), NoMemory>
         ensures room { OnOk result (1 ≤ self.new.spare) }
         ensures index { self.new.index ≡ self.old.index }
+        ensures full { OnErr result (self.old.spare ≡ 0) }
         ensures err { OnErr result (self.new ≡ self.old) }
     {
         self.entries.reserve(1)?;
@@ -107,7 +108,8 @@ impl Tickets {
         state_of(known_entry(&self.entries, id))
     }
 
-    /// The pending ticket with the least number above this one, and its service.
+    /// The pending ticket with the least number above this one, and its service. Those with a stored reply in between
+    /// are passed over, so that going through all tickets takes one walk.
     pub fn pending(&self, after: u64) -> Option<(u64, &Name)>
         ensures { option_map (λ p. (p.0, p.1.now)) result ≡ option_map pending_as (Fold.pending_above after self.now.index) }
     {
