@@ -1,9 +1,9 @@
 -- What an append makes of the list for which memory and disk stand.
-use Rattle.std.proofs.Common.{◌≡◌, ◌≢◌, ℕ, ◌+◌, ◌<◌, ◌≤◌, ◌⊎◌, Bool, true, false, List, [], ◌∷◌, ◌++◌, length, map, Option, Some, None, is_some, refl, sym, ◌∙◌, ap, subst, inl, inr, ⊎_elim, arith}
+use Rattle.std.proofs.Common.{◌≡◌, ◌≢◌, ℕ, ◌+◌, ◌≤◌, ◌⊎◌, true, false, List, [], ◌∷◌, ◌++◌, length, Option, Some, None, is_some, refl, sym, ◌∙◌, ap, subst, inl, inr, arith}
 use Rattle.std.specs.Prelude.{option_and_then}
 use Rattle.std.specs.List.{AllByRecursion}
 use Rattle.std.proofs.lemmas.List.{map_push}
-use Rattle.mj_disk.specs.Content.{Content, IsImage, settled}
+use Rattle.mj_disk.specs.Content.{Content, IsImage}
 use Rattle.mj_disk.specs.DiskModel.{History, Now, IsSettled, LeavesOnly, latest}
 use Rattle.mj_disk.specs.declared.disk.Disk.{Ghosts}
 use Rattle.mj_disk.proofs.Images.{settled_is}
@@ -14,10 +14,10 @@ use Rattle.mj_tickets.specs.Payload.{IsCommand, payload_of}
 use Rattle.mj_tickets.specs.Fold.{Fold, start, applied}
 use Rattle.mj_tickets.specs.Index.{indexed, place_in}
 use Rattle.mj_journal.specs.FileText.{IsHeader, Stands, sizes, end_of}
-use Rattle.mj_journal.specs.Appending.{EndsAt, ReachesTo, Appends, CrashesOldOrNew, StandsForEither}
+use Rattle.mj_journal.specs.Appending.{EndsAt, Appends, CrashesOldOrNew, StandsForEither}
 use Rattle.mj_journal.proofs.Files.{length-header, end_of-push}
 use Rattle.mj_store.specs.Commands.{payloads_of, IsWritten, placed_from, index_of, IsLawful, StandsForCommands, OpensFor, OpensForOne}
-use Rattle.mj_store.specs.Standing.{StoreValue, Knows, IsSettledFor, Holds, IsHeld, IsWithOrWithout, IsInDoubt, Leaves, Adds, Doubts, LeavesWithOrWithout}
+use Rattle.mj_store.specs.Standing.{StoreValue, Knows, IsSettledFor, Holds, IsHeld, IsWithOrWithout, Adds, Doubts, LeavesWithOrWithout}
 
 -- ---- lists
 

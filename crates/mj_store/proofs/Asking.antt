@@ -1,12 +1,12 @@
 -- What a call asks for its command.
-use Rattle.std.proofs.Common.{◌≡◌, ◌≢◌, ℕ, ◌+◌, ◌<◌, ◌≤◌, Bool, true, false, List, [], ◌∷◌, ◌++◌, length, Option, Some, None, ltb, leb, refl, sym, ◌∙◌, ap, subst, arith, length-append}
+use Rattle.std.proofs.Common.{◌≡◌, ◌≢◌, ℕ, ◌<◌, ◌≤◌, Bool, true, false, List, [], ◌∷◌, Some, None, ltb, leb, arith, length-append}
 use Rattle.std.proofs.lemmas.Bool.{and_from, lt-ltb, le-leb}
 use Rattle.std.specs.Prelude.{if◌then◌else◌}
 use Rattle.mj_ids.specs.Ids.{number_of}
-use Rattle.mj_tickets.specs.declared.command.TicketCmd.TheVariants.{Accept, Store, Close}
+use Rattle.mj_tickets.specs.declared.command.TicketCmd.TheVariants.{Store, Close}
 use Rattle.mj_tickets.specs.declared.place.Place.{Place}
 use Rattle.mj_tickets.specs.Payload.{Fits, body_text, number_octets}
-use Rattle.mj_tickets.specs.Fold.{Fold, takes, applied, accepts}
+use Rattle.mj_tickets.specs.Fold.{Fold, takes, accepts}
 use Rattle.mj_tickets.specs.Laws.{AreNumbered}
 use Rattle.mj_tickets.proofs.LengthLemmas.{length-number_octets}
 use Rattle.mj_store.specs.Commands.{CanBeKept}

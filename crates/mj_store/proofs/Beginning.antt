@@ -1,26 +1,24 @@
 -- The list that an opening finds is the one as which the bytes open, and what a crash inside it leaves.
-use Rattle.std.proofs.Common.{◌≡◌, ◌≢◌, ℕ, ◌+◌, ◌<◌, ◌≤◌, ◌⊎◌, Bool, true, false, not, cond, nat_eq, List, [], ◌∷◌, ◌++◌, length, map, Option, Some, None, is_some, refl, sym, ◌∙◌, ap, subst, inl, inr, ⊎_elim, arith}
+use Rattle.std.proofs.Common.{◌≡◌, ℕ, ◌≤◌, ◌⊎◌, true, List, [], ◌∷◌, ◌++◌, length, Option, Some, None, is_some, refl, sym, ◌∙◌, ap, subst, inl, inr, ⊎_elim, arith}
 use Rattle.std.specs.List.{AllByRecursion}
 use Rattle.std.proofs.lemmas.List.{append-nil}
-use Rattle.mj_disk.specs.Content.{Content, IsImage, settled}
-use Rattle.mj_disk.specs.DiskModel.{History, Now, Turns, IsSettled, LeavesOnly, CrashesAs}
+use Rattle.mj_disk.specs.Content.{Content, IsImage}
+use Rattle.mj_disk.specs.DiskModel.{History, Now, IsSettled, LeavesOnly, CrashesAs}
 use Rattle.mj_disk.specs.declared.disk.Disk.{Ghosts}
 use Rattle.mj_disk.proofs.Images.{settled_is}
-use Rattle.mj_disk.proofs.Moments.{counts_now, told_before, leaves_weaker, rests, then_leaves, still}
+use Rattle.mj_disk.proofs.Moments.{counts_now, leaves_weaker, rests}
 use Rattle.mj_tickets.specs.declared.command.TicketCmd.{TicketCmd}
-use Rattle.mj_tickets.specs.declared.place.Place.{Place}
 use Rattle.mj_tickets.specs.Payload.{IsCommand, payload_of}
-use Rattle.mj_tickets.specs.Fold.{Fold}
 use Rattle.mj_tickets.proofs.AgainLemmas.{one_command}
-use Rattle.mj_journal.specs.FileText.{IsHeader, IsShort, IsLittle, Opens, OpensAs, Stands, StandsFor, sizes, end_of, header_2}
-use Rattle.mj_journal.specs.Opening.{Begins, IsKeptOrMade, IsBegun, IsImageOrOpensAlike}
+use Rattle.mj_journal.specs.FileText.{Opens, OpensAs, Stands, StandsFor, header_2}
+use Rattle.mj_journal.specs.Opening.{IsKeptOrMade, IsImageOrOpensAlike}
 use Rattle.mj_journal.proofs.Files.{length-header, length-base_octets}
 use Rattle.mj_journal.proofs.Beginning.{short_is_nil}
-use Rattle.mj_journal.proofs.Unique.{stands_once, stands_short, opens_once}
-use Rattle.mj_store.specs.Commands.{payloads_of, IsWritten, IsBase, IsLawful, index_of, StandsForCommands, OpensFor, OpensForOne}
-use Rattle.mj_store.specs.Standing.{StoreValue, Knows, IsSettledFor, Holds, IsHeld, IsTelling, IsWithOrWithout, IsInDoubt, Leaves}
-use Rattle.mj_store.specs.Opening.{KeepsOrMakes, Reads, HasAll, FindsDoubt, StaysInDoubt, LeavesInDoubt, LeavesBegun, has_moved, found_if}
-use Rattle.mj_store.proofs.Adding.{opens_for, opens_for_one}
+use Rattle.mj_journal.proofs.Unique.{stands_once, stands_short}
+use Rattle.mj_store.specs.Commands.{payloads_of, IsWritten, StandsForCommands, OpensFor, OpensForOne}
+use Rattle.mj_store.specs.Standing.{IsWithOrWithout}
+use Rattle.mj_store.specs.Opening.{KeepsOrMakes, StaysInDoubt, LeavesInDoubt, LeavesBegun}
+use Rattle.mj_store.proofs.Adding.{opens_for_one}
 
 -- ---- lists and payloads
 

@@ -1,5 +1,5 @@
 -- What an opening found, and that nothing in doubt is refused.
-use Rattle.std.proofs.Common.{◌≡◌, ◌≢◌, ℕ, ◌+◌, ◌<◌, ◌≤◌, ◌⊎◌, ◌==◌, Bool, true, false, not, cond, nat_eq, List, [], ◌∷◌, ◌++◌, length, map, Option, Some, None, is_some, refl, sym, ◌∙◌, ap, subst, inl, inr, ⊎_elim, arith, append_assoc}
+use Rattle.std.proofs.Common.{◌≡◌, ◌≢◌, ℕ, ◌+◌, Bool, false, not, nat_eq, List, [], ◌∷◌, ◌++◌, length, Option, Some, None, is_some, refl, sym, ◌∙◌, ap, subst, inl, inr, ⊎_elim, arith}
 use Rattle.std.specs.Prelude.{option_and_then}
 use Rattle.std.specs.List.{AllByRecursion}
 use Rattle.std.proofs.lemmas.List.{append-nil}
@@ -15,16 +15,15 @@ use Rattle.mj_tickets.specs.Fold.{Fold, start, applied}
 use Rattle.mj_tickets.specs.Index.{indexed, place_in}
 use Rattle.mj_journal.specs.declared.fault.OpenFault.{OpenFault}
 use Rattle.mj_journal.specs.declared.fault.OpenFault.TheVariants.{NotAStore, Version, Damaged, DiskFault, NoMemory}
-use Rattle.mj_journal.specs.FileText.{Opens, sizes, end_of}
+use Rattle.mj_journal.specs.FileText.{sizes, end_of}
 use Rattle.mj_journal.specs.Opening.{IsKeptOrMade, IsBegun, IsNotBegun, IsBeginFault, IsRefused}
 use Rattle.mj_journal.specs.Opening as journal
 use Rattle.mj_journal.proofs.Standing.{not_refused, not_damaged, read_in_front}
 use Rattle.mj_journal.proofs.Unique.{stands_short, opens_once}
 use Rattle.mj_store.specs.Commands.{payloads_of, IsWritten, IsBase, IsLawful, placed_from, index_of, StandsForCommands}
-use Rattle.mj_store.specs.Standing.{StoreValue, Holds, IsHeld, IsTelling, IsWithOrWithout, IsInDoubt}
+use Rattle.mj_store.specs.Standing.{StoreValue, Holds, IsTelling, IsInDoubt}
 use Rattle.mj_store.specs.Opening as found
 use Rattle.mj_store.specs.Opening.{KeepsOrMakes, HasAll, IsBad, IsDamaged, IsUnread, IsUnopened, IsRefusal, NoneInDoubt, FindsDoubt, has_moved, found_if}
-use Rattle.mj_store.proofs.Adding.{index-push, payloads-push}
 use Rattle.mj_store.proofs.Beginning.{same_cmds, opened_before, kept_or_made}
 
 -- ---- what was found

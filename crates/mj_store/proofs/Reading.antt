@@ -1,21 +1,19 @@
 -- One command more of a file, or why it can't be read.
-use Rattle.std.proofs.Common.{◌≡◌, ◌≢◌, ℕ, ◌+◌, ◌<◌, ◌≤◌, ◌⊎◌, List, [], ◌∷◌, ◌++◌, length, Option, Some, None, refl, sym, ◌∙◌, ap, subst, inl, inr, arith}
-use Rattle.std.specs.List.{AllByRecursion}
-use Rattle.mj_disk.specs.Content.{Content}
+use Rattle.std.proofs.Common.{◌≡◌, ℕ, ◌+◌, List, [], ◌∷◌, ◌++◌, length, Option, Some, None, sym, ◌∙◌, ap, subst, inl, inr, arith}
 use Rattle.mj_disk.specs.DiskModel.{History, Now}
 use Rattle.mj_tickets.specs.declared.command.TicketCmd.{TicketCmd}
 use Rattle.mj_tickets.specs.declared.place.Place.{Place}
-use Rattle.mj_tickets.specs.Payload.{IsCommand, payload_of}
+use Rattle.mj_tickets.specs.Payload.{IsCommand}
 use Rattle.mj_tickets.specs.Fold.{Fold, applied}
 use Rattle.mj_tickets.specs.Index.{place_in}
 use Rattle.mj_tickets.proofs.AgainLemmas.{one_command}
 use Rattle.mj_journal.specs.declared.fault.OpenFault.{OpenFault}
 use Rattle.mj_journal.specs.declared.fault.OpenFault.TheVariants.{NotAStore, Version, Damaged, DiskFault, NoMemory}
 use Rattle.mj_journal.specs.FileText.{end_of}
-use Rattle.mj_journal.specs.Opening.{IsNextFault, IsNotNext, ReadTo, ReadsOne, ReadsAll, IsDamagedAt}
+use Rattle.mj_journal.specs.Opening.{IsNextFault, IsNotNext, ReadTo, ReadsOne, ReadsAll}
 use Rattle.mj_journal.proofs.Files.{end_of-push}
-use Rattle.mj_store.specs.Commands.{payloads_of, IsWritten, StandsForCommands, index_of}
-use Rattle.mj_store.specs.Opening.{Reads, ReadIn, HasRead, HasAll, IsBad, IsDamaged, IsUnread}
+use Rattle.mj_store.specs.Commands.{payloads_of, IsWritten}
+use Rattle.mj_store.specs.Opening.{HasRead, HasAll, IsBad, IsDamaged, IsUnread}
 use Rattle.mj_store.proofs.Adding.{index-push, written-push, payloads-push}
 
 pub next_unread : (base gate : ℕ) (index : Fold Place) (told : Option History) (fault : OpenFault) → HasRead base gate index told → IsNextFault fault → Now told (IsNotNext gate fault) → IsUnread base fault told

@@ -1,9 +1,9 @@
 -- Which ticket commands a file stands for, and the tickets in memory that they leave.
-use Rattle.std.specs.Prelude.{◌≡◌, ℕ, ◌+◌, ◌≤◌, ◌^◌, ◌⊎◌, ◌&&◌, ◌||◌, Bool, false, nat_le, nat_lt, List, [], ◌∷◌, ◌++◌, length, map, Option, Some, None}
+use Rattle.std.specs.Prelude.{◌≡◌, ℕ, ◌+◌, ◌≤◌, ◌^◌, ◌⊎◌, Bool, false, List, [], ◌∷◌, length, map, Option, Some, None}
 use Rattle.std.specs.List.{AllByRecursion}
 use Rattle.mj_tickets.specs.declared.command.TicketCmd.{TicketCmd}
 use Rattle.mj_tickets.specs.declared.place.Place.{Place}
-use Rattle.mj_tickets.specs.Payload.{FitsBody, IsCommand, body_text, payload_of}
+use Rattle.mj_tickets.specs.Payload.{IsCommand, body_text, payload_of}
 use Rattle.mj_tickets.specs.Fold.{Ticket, Fold, start, fold_of, ticket_of, is_pending}
 use Rattle.mj_tickets.specs.Index.{Placed, indexed}
 use Rattle.mj_journal.specs.FileText.{StandsFor, Opens}

@@ -200,6 +200,13 @@ impl Store {
         self.tickets.body_place(number).is_some() && self.tickets.reply_place(number).is_none()
     }
 
+    /// Whether this is the number of an open ticket.
+    pub fn is_open(&self, number: u64) -> bool
+        ensures { result ≡ is_some (ticket_of number self.now.index) }
+    {
+        self.tickets.body_place(number).is_some()
+    }
+
     /// The open ticket with the least number above this one, its service, and whether its reply is stored.
     pub fn listed(&self, after: u64) -> Option<(TicketId, &Name, bool)>
         ensures { option_map (λ p. (p.0, p.1.now, p.2)) result ≡ option_map listed_as (Fold.open_above after self.now.index) }

@@ -1,4 +1,4 @@
-use Rattle.std.proofs.Common.{◌≡◌, ◌∙◌}
+use Rattle.std.proofs.Common.{◌∙◌}
 use Rattle.mj_store.proofs.Adding.{stays_held}
 use Rattle.mj_store.proofs.Asking.{accept_lawful}
 use Rattle.mj_store.proofs.store.Store.accept.Goals as goal

@@ -1,4 +1,4 @@
-use Rattle.std.proofs.Common.{◌≡◌, ◌+◌, ap, sym, ◌∙◌, subst, refl, Option, Some, false}
+use Rattle.std.proofs.Common.{◌≡◌, ◌+◌, ap, sym, ◌∙◌, subst, Some}
 use Rattle.mj_tickets.specs.declared.place.Place.{Place}
 use Rattle.mj_tickets.specs.Fold.{Fold, applied}
 use Rattle.mj_tickets.specs.Index.{place_in}

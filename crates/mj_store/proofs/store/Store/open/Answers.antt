@@ -1,4 +1,4 @@
-use Rattle.std.proofs.Common.{◌≡◌, ◌∙◌, ℕ, refl, sym, ap, subst, false, is_some, Option, arith}
+use Rattle.std.proofs.Common.{◌≡◌, ◌∙◌, ℕ, refl, sym, ap, subst, false, is_some, arith}
 use Rattle.mj_tickets.specs.Fold.{start}
 use Rattle.mj_store.specs.Standing.{StoreValue}
 use Rattle.mj_store.specs.Opening.{HasAll}
