@@ -1,0 +1,5 @@
+pub mod Adding
+pub mod Asking
+pub mod Reading
+pub mod Beginning
+pub mod Found
