@@ -1,7 +1,7 @@
 use super::{Octets, Reason};
 
 /// What happens to the broker. The first number is the lane, which stands for one peer at a time.
-#[derive(Debug, Drop)]
+#[derive(Drop)]
 pub enum Event {
     /// A peer has connected on the lane.
     Open(u32),
@@ -19,7 +19,7 @@ pub enum Event {
 
 /// What became of the broker's store at an act on its disk: an append, the reading of a body, or an opening again.
 /// The first number is the act's in its event, from 0.
-#[derive(Clone, Copy, Debug, PartialEq, Eq)]
+#[derive(Clone, Copy)]
 pub enum Note {
     /// The act failed, and the store is shut.
     Shut(u32),
@@ -28,7 +28,7 @@ pub enum Note {
 }
 
 /// What the broker does. The first number is the lane.
-#[derive(Debug, Drop)]
+#[derive(Drop)]
 pub enum Out {
     /// Sends these bytes to the lane's peer.
     Piece(u32, Octets),

@@ -6,7 +6,7 @@ use std::alloc::Global;
 use std::marker::Model;
 
 /// A list of frames, each a list of bytes.
-#[derive(Debug, Drop)]
+#[derive(Drop)]
 pub struct Frames {
     frames: Vec<Octets>,
     octets: u64,

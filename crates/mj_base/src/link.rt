@@ -5,7 +5,7 @@ ghost use Rattle.mj_base.specs.Linking.{Tells, LinkReads, LinkWrites, LinkReadCa
 use super::{NoMemory, Octets};
 
 /// What a link gives.
-#[derive(Debug, Drop)]
+#[derive(Drop)]
 pub enum LinkEvent {
     /// The next bytes of the peer's stream.
     Given(Octets),
@@ -42,7 +42,7 @@ pub enum LinkWrite {
 }
 
 /// What passed on a link.
-#[derive(Debug, Drop)]
+#[derive(Drop)]
 pub enum LinkEntry {
     /// These bytes were read.
     Got(Octets),

@@ -4,7 +4,7 @@ use super::{Octets, Sink, WriteAnswer};
 use std::alloc::Global;
 
 /// A sink in memory: it keeps what is written, and fails at the writes that it is told to fail at.
-#[derive(Debug, Drop)]
+#[derive(Drop)]
 pub struct MemorySink {
     octets: Octets,
     calls: u64,

@@ -3,7 +3,7 @@ ghost use Rattle.std.specs.Prelude.{◌≡◌, ◌≤◌, ◌<◌, ◌++◌, len
 use super::{Octets, ReadAnswer, Source};
 
 /// A source in memory: it gives its bytes, and fails at the reads that it is told to fail at.
-#[derive(Debug, Drop)]
+#[derive(Drop)]
 pub struct MemorySource {
     octets: Octets,
     at: usize,

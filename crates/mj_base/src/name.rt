@@ -6,7 +6,7 @@ ghost use Rattle.mj_base.specs.ServiceName.{name_of, is_reserved};
 use std::marker::Model;
 
 /// A service name: 1 to 255 bytes, each a printing character of ASCII or a space.
-#[derive(Debug, Drop)]
+#[derive(Drop)]
 pub struct Name {
     bytes: [u8; 255],
     len: u8,

@@ -6,7 +6,7 @@ use std::alloc::Global;
 use std::marker::Model;
 
 /// A list of bytes that grows at its end.
-#[derive(Debug, Drop)]
+#[derive(Drop)]
 pub struct Octets {
     bytes: Vec<u8>,
 }

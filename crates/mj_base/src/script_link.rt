@@ -7,7 +7,7 @@ use std::alloc::Global;
 
 /// A link in memory: it gives its events, and then `Idle`. It keeps what is written, and fails at the reads and
 /// writes that it is told to fail at.
-#[derive(Debug, Drop)]
+#[derive(Drop)]
 pub struct ScriptLink {
     /// The events that are still to come, the next one last.
     events: Vec<LinkEvent>,

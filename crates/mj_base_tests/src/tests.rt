@@ -1,32 +1,37 @@
 use mj_base::{
-    Frames, Limits, Link, LinkAnswer, LinkEvent, LinkWrite, MemorySink, MemorySource, Name, Note,
-    Octets, Out, ReadAnswer, ScriptLink, Sink, Source, StdSink, StdSource, WriteAnswer,
+    Frames, Limits, Link, LinkAnswer, LinkEvent, LinkWrite, MemorySink, MemorySource, Name,
+    NoMemory, Note, Octets, Out, ReadAnswer, ScriptLink, Sink, Source, StdSink, StdSource,
+    WriteAnswer,
 };
-use std::alloc::Global;
+use std::alloc::{AllocError, Global};
 use std::collections::VecDeque;
 use std::test::Fail;
 
 fn octets_of(alloc: Global, bytes: &[u8]) -> Result<Octets, Fail> {
-    let mut octets = Octets::new(alloc);
-    octets.push_all(bytes)?;
-    Ok(octets)
+    Ok(Octets::copy_of(alloc, bytes)?)
+}
+
+fn two_frames(alloc: Global) -> Result<Frames, NoMemory> {
+    let mut frames = Frames::new(alloc);
+    frames.push(b"")?;
+    frames.push(b"MDPC01")?;
+    Ok(frames)
 }
 
 #[test]
 fn frames_keep_their_bytes_and_count_them(rt: HostRuntime) -> Result<(), Fail> {
-    let mut frames = Frames::new(rt.alloc());
-    assert!(rt; frames.is_empty());
-    frames.push(b"")?;
-    frames.push(b"MDPC01")?;
-    let copy = frames.copy()?;
-    assert_eq!(rt; copy.len(), 2);
-    assert_eq!(rt; copy.octets(), 6);
-    assert!(rt; copy.get(1) == Some(b"MDPC01".as_slice()));
-    assert!(rt; copy.get(2).is_none());
-    assert_eq!(rt; copy.weight(), 70);
+    let frames = two_frames(rt.alloc())?;
+    assert!(rt; frames.len() == 2 && frames.octets() == 6 && frames.weight() == 70);
+    assert!(rt; frames.get(1) == Some(b"MDPC01".as_slice()) && frames.get(2).is_none());
+    Ok(())
+}
+
+#[test]
+fn frames_are_copied_whole_or_from_a_place(rt: HostRuntime) -> Result<(), Fail> {
+    let copy = two_frames(rt.alloc())?.copy()?;
+    assert!(rt; copy.len() == 2 && !copy.is_empty());
     let tail = copy.copy_from(1)?;
-    assert_eq!(rt; tail.len(), 1);
-    assert!(rt; tail.get(0) == Some(b"MDPC01".as_slice()));
+    assert!(rt; tail.len() == 1 && tail.get(0) == Some(b"MDPC01".as_slice()));
     Ok(())
 }
 
@@ -36,12 +41,16 @@ fn octets_grow_and_are_cut(rt: HostRuntime) -> Result<(), Fail> {
     octets.push_all(b"de")?;
     assert!(rt; octets.as_slice() == b"abcde".as_slice());
     octets.truncate(2);
-    assert_eq!(rt; octets.len(), 2);
+    assert!(rt; octets.len() == 2 && octets.weight() == 2);
     octets.clear();
     assert!(rt; octets.is_empty());
-    let copy = Octets::copy_of(rt.alloc(), b"ab")?;
-    assert!(rt; copy.as_slice() == b"ab".as_slice());
-    assert_eq!(rt; Octets::from_vec(vec![in rt.alloc(); 7, 8]?).weight(), 2);
+    Ok(())
+}
+
+#[test]
+fn octets_are_made_of_a_vector(rt: HostRuntime) -> Result<(), Fail> {
+    let octets = Octets::from_vec(vec![in rt.alloc(); 7, 8]?);
+    assert!(rt; octets.as_slice() == [7, 8].as_slice());
     Ok(())
 }
 
@@ -103,15 +112,21 @@ fn a_memory_sink_fails_where_it_is_told_to(rt: HostRuntime) -> Result<(), Fail> 
 }
 
 #[test]
-fn readers_and_writers_are_sources_and_sinks(rt: HostRuntime) -> Result<(), Fail> {
+fn a_writer_is_a_sink(rt: HostRuntime) -> Result<(), Fail> {
     let mut queue: VecDeque<u8> = VecDeque::new(rt.alloc());
-    let mut sink = StdSink::new(&mut queue);
-    assert_eq!(rt; sink.write(b"hi"), WriteAnswer::Done);
+    assert!(rt; StdSink::new(&mut queue).write(b"hi") == WriteAnswer::Done);
+    assert!(rt; queue.len() == 2);
+    Ok(())
+}
+
+#[test]
+fn a_reader_is_a_source(rt: HostRuntime) -> Result<(), Fail> {
+    let mut queue: VecDeque<u8> = VecDeque::new(rt.alloc());
+    queue.push_back(b'i')?;
     let mut source = StdSource::new(queue);
     let mut into = [0; 8];
-    assert_eq!(rt; source.read(&mut into), ReadAnswer::Got(2));
-    assert_eq!(rt; into[1], b'i');
-    assert_eq!(rt; source.read(&mut into), ReadAnswer::End);
+    assert!(rt; source.read(&mut into) == ReadAnswer::Got(1) && into[0] == b'i');
+    assert!(rt; source.read(&mut into) == ReadAnswer::End);
     Ok(())
 }
 
@@ -154,27 +169,35 @@ fn limits_above_the_largest_are_not_lawful(rt: HostRuntime) {
     }
 }
 
+fn script_link(alloc: Global) -> Result<ScriptLink, Fail> {
+    let events = vec![in alloc;
+        LinkEvent::Given(octets_of(alloc, b"abc")?),
+        LinkEvent::End,
+        LinkEvent::Given(octets_of(alloc, b"d")?),
+    ]?;
+    Ok(ScriptLink::new(alloc, events, vec![in alloc; 1, 4]?))
+}
+
+/// What so many reads of at most two bytes answer.
+fn answers_of(alloc: Global, link: &mut ScriptLink, count: u32) -> Result<String, AllocError> {
+    let mut text = String::new(alloc);
+    let mut into = [0; 2];
+    for _read in 0..count {
+        text.push_str(format!(in alloc; "{:?} ", link.read(&mut into))?.as_str())?;
+    }
+    Ok(text)
+}
+
 #[test]
 fn a_script_link_gives_its_events_and_keeps_what_is_written(rt: HostRuntime) -> Result<(), Fail> {
-    let events = vec![in rt.alloc();
-        LinkEvent::Given(Octets::copy_of(rt.alloc(), b"abc")?),
-        LinkEvent::End,
-        LinkEvent::Given(Octets::copy_of(rt.alloc(), b"d")?),
-    ]?;
-    let mut link = ScriptLink::new(rt.alloc(), events, vec![in rt.alloc(); 1, 4]?);
-    let mut into = [0; 2];
-    assert_eq!(rt; link.read(&mut into), LinkAnswer::Got(2));
-    assert_eq!(rt; into, *b"ab");
-    assert_eq!(rt; link.read(&mut into), LinkAnswer::Failed);
-    assert_eq!(rt; link.read(&mut into), LinkAnswer::Got(1));
-    assert_eq!(rt; link.read(&mut into), LinkAnswer::End);
-    assert_eq!(rt; link.write(b"x"), LinkWrite::Failed);
-    assert_eq!(rt; link.write(b"y"), LinkWrite::Done);
+    let mut link = script_link(rt.alloc())?;
+    let first = answers_of(rt.alloc(), &mut link, 4)?;
+    assert!(rt; first.as_str() == "Got(2) Failed Got(1) End ");
+    assert!(rt; link.write(b"x") == LinkWrite::Failed && link.write(b"y") == LinkWrite::Done);
     assert!(rt; link.reopen().is_ok());
-    assert_eq!(rt; link.read(&mut into), LinkAnswer::Got(1));
-    assert_eq!(rt; link.read(&mut into), LinkAnswer::Idle);
-    assert_eq!(rt; link.write(b"z"), LinkWrite::Done);
-    assert!(rt; link.written() == b"yz".as_slice());
+    let second = answers_of(rt.alloc(), &mut link, 2)?;
+    assert!(rt; second.as_str() == "Got(1) Idle ");
+    assert!(rt; link.write(b"z") == LinkWrite::Done && link.written() == b"yz".as_slice());
     Ok(())
 }
 

@@ -3,7 +3,7 @@ ghost use Rattle.std.specs.Prelude.{◌↔◌, IsTrue};
 use mj_base::{Frames, Name, Version};
 
 /// A client asks a service (ZeroMQ RFC 7, client request).
-#[derive(Debug, Drop)]
+#[derive(Drop)]
 pub struct ClientCmd {
     pub version: Version,
     /// Whether the empty frame stands first, as it always does in 0.1.
@@ -27,7 +27,7 @@ impl ClientCmd {
 }
 
 /// What a service answers, passed on to the client (ZeroMQ RFC 7, client reply).
-#[derive(Debug, Drop)]
+#[derive(Drop)]
 pub struct ClientReply {
     pub version: Version,
     /// Whether the empty frame stands first, as it always does in 0.1.

@@ -1,5 +1,5 @@
 /// One change of a disk in memory, with its moment.
-#[derive(Clone, Copy, Debug, PartialEq, Eq)]
+#[derive(Clone, Copy)]
 pub(crate) enum Entry {
     /// A write of so many bytes.
     Wrote { moment: u64, at: u64, len: u64 },

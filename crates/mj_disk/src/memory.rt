@@ -14,7 +14,7 @@ use std::alloc::Global;
 const RECORD: usize = 65_536;
 
 /// A disk in memory, for tests: it keeps a record of its writes and syncs, and fails where it is told to.
-#[derive(Debug, Drop)]
+#[derive(Drop)]
 pub struct MemoryDisk {
     octets: Vec<u8>,
     synced: Vec<u8>,

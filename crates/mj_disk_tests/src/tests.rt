@@ -52,7 +52,7 @@ fn images_are(alloc: Global, disk: &MemoryDisk, images: [&[u8]; 3]) -> Result<bo
 fn a_crash_leaves_old_bytes_new_bytes_or_others(rt: HostRuntime) -> Result<(), Fail> {
     let alloc = rt.alloc();
     let mut disk = disk_of(alloc, b"abcd", 8, Vec::new(alloc), None)?;
-    assert_eq!(rt; disk.images(), 3);
+    assert!(rt; disk.images() == 3);
     assert!(rt; images_are(alloc, &disk, [b"abcd", b"abcd", b"abcd"])?);
     assert!(rt; write(&mut disk, 2, b"xyz").is_ok());
     assert!(rt; images_are(alloc, &disk, [b"abxyz", b"abcd", b"ab\xff\xff\xff"])?);
@@ -60,9 +60,9 @@ fn a_crash_leaves_old_bytes_new_bytes_or_others(rt: HostRuntime) -> Result<(), F
     assert!(rt; images_are(alloc, &disk, [b"qbxyz", b"abcd", b"\xffb\xff\xff\xff"])?);
     assert!(rt; disk.sync().is_ok());
     assert!(rt; images_are(alloc, &disk, [b"qbxyz", b"qbxyz", b"qbxyz"])?);
-    assert_eq!(rt; disk.size(), Ok(5));
-    assert_eq!(rt; read_three(&mut disk, 1), Ok(*b"bxy"));
-    assert_eq!(rt; disk.moment(), 5);
+    assert!(rt; disk.size() == Ok(5));
+    assert!(rt; read_three(&mut disk, 1) == Ok(*b"bxy"));
+    assert!(rt; disk.moment() == 5);
     Ok(())
 }
 
@@ -71,13 +71,13 @@ fn a_memory_disk_fails_where_it_is_told_to(rt: HostRuntime) -> Result<(), Fail> 
     let alloc = rt.alloc();
     let failing = vec![in alloc; 1, 2]?;
     let mut disk = disk_of(alloc, b"ab", 4, failing, Some(6))?;
-    assert_eq!(rt; disk.size(), Ok(2));
-    assert_eq!(rt; write(&mut disk, 1, b"xy"), Err(DiskFailed));
-    assert_eq!(rt; disk.sync(), Err(DiskFailed));
+    assert!(rt; disk.size() == Ok(2));
+    assert!(rt; write(&mut disk, 1, b"xy") == Err(DiskFailed));
+    assert!(rt; disk.sync() == Err(DiskFailed));
     assert!(rt; images_are(alloc, &disk, [b"ab", b"ab", b"a\xff"])?);
     assert!(rt; write(&mut disk, 2, b"cd").is_ok() && disk.sync().is_ok());
-    assert_eq!(rt; disk.size(), Ok(4));
-    assert_eq!(rt; disk.size(), Err(DiskFailed));
+    assert!(rt; disk.size() == Ok(4));
+    assert!(rt; disk.size() == Err(DiskFailed));
     Ok(())
 }
 
@@ -85,9 +85,9 @@ fn a_memory_disk_fails_where_it_is_told_to(rt: HostRuntime) -> Result<(), Fail> 
 fn a_write_past_the_room_fails(rt: HostRuntime) -> Result<(), Fail> {
     let alloc = rt.alloc();
     let mut disk = disk_of(alloc, b"ab", 4, Vec::new(alloc), None)?;
-    assert_eq!(rt; write(&mut disk, 2, b"xyz"), Err(DiskFailed));
-    assert_eq!(rt; write(&mut disk, 2, b"xy"), Ok(()));
-    assert_eq!(rt; disk.sync(), Ok(()));
+    assert!(rt; write(&mut disk, 2, b"xyz") == Err(DiskFailed));
+    assert!(rt; write(&mut disk, 2, b"xy") == Ok(()));
+    assert!(rt; disk.sync() == Ok(()));
     assert!(rt; images_are(alloc, &disk, [b"abxy", b"abxy", b"abxy"])?);
     Ok(())
 }
@@ -98,15 +98,15 @@ fn holds_abxyz<D: Disk>(rt: &impl Abort, file: &mut D)
 {
     let mut all = [0; 5];
     let mut part = [0; 4];
-    assert_eq!(rt; file.size(), Ok(5));
-    assert_eq!(rt; file.read(0, &mut all), Ok(()));
-    assert_eq!(rt; all, *b"abxyz");
-    assert_eq!(rt; file.read(1, &mut part), Ok(()));
-    assert_eq!(rt; part, *b"bxyz");
-    assert_eq!(rt; file.read(2, &mut part), Err(DiskFailed));
-    assert_eq!(rt; file.write(SIZE_LIMIT - 1, b"x"), Err(DiskFailed));
-    assert_eq!(rt; file.size(), Ok(5));
-    assert_eq!(rt; file.moment(), 0);
+    assert!(rt; file.size() == Ok(5));
+    assert!(rt; file.read(0, &mut all) == Ok(()));
+    assert!(rt; all == *b"abxyz");
+    assert!(rt; file.read(1, &mut part) == Ok(()));
+    assert!(rt; part == *b"bxyz");
+    assert!(rt; file.read(2, &mut part) == Err(DiskFailed));
+    assert!(rt; file.write(SIZE_LIMIT - 1, b"x") == Err(DiskFailed));
+    assert!(rt; file.size() == Ok(5));
+    assert!(rt; file.moment() == 0);
 }
 
 /// A file tells no content, so that its size and what is read of it are shown here alone.
@@ -115,10 +115,10 @@ fn a_file_disk_keeps_its_bytes(rt: HostRuntime) -> Result<(), Fail> {
     let alloc = rt.alloc();
     let path = "file_disk_test";
     let mut disk = FileDisk::new(&rt, String::from_str(alloc, path)?);
-    assert_eq!(rt; disk.size(), Ok(0));
-    assert_eq!(rt; write_synced(&mut disk, 0, b"abcd"), Ok(()));
-    assert_eq!(rt; disk.write(2, b"xyz"), Ok(()));
-    assert_eq!(rt; disk.sync(), Ok(()));
+    assert!(rt; disk.size() == Ok(0));
+    assert!(rt; write_synced(&mut disk, 0, b"abcd") == Ok(()));
+    assert!(rt; disk.write(2, b"xyz") == Ok(()));
+    assert!(rt; disk.sync() == Ok(()));
     holds_abxyz(&rt, &mut disk);
     let mut again = FileDisk::new(&rt, String::from_str(alloc, path)?);
     holds_abxyz(&rt, &mut again);

@@ -11,7 +11,7 @@ use mj_disk::{Disk, DiskFailed, write_synced};
 use std::alloc::Global;
 
 /// An opened file, to whose end payloads are appended.
-#[derive(Debug, Drop)]
+#[derive(Drop)]
 pub struct Journal {
     pub(crate) end: u64,
     pub(crate) spent: bool,

@@ -21,7 +21,7 @@ pub enum MakeFault {
 }
 
 /// A new file that is being filled. Until it is finished its first byte is 0, so that it is no store.
-#[derive(Debug, Drop)]
+#[derive(Drop)]
 pub struct Making {
     base: u64,
     journal: Journal,

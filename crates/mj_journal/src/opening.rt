@@ -18,7 +18,7 @@ const SHORT: u64 = 17;
 const MAX_PAYLOAD: u32 = 2_097_152;
 
 /// A file that is being opened: its payloads are read one after another.
-#[derive(Debug, Drop)]
+#[derive(Drop)]
 pub struct Opening {
     base: u64,
     next: u64,

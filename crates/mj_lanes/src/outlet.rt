@@ -7,7 +7,7 @@ use std::marker::Model;
 use std::sync::Wait;
 
 /// What an outlet holds.
-#[derive(Debug, Drop)]
+#[derive(Drop)]
 pub enum Item {
     /// A piece for the lane's peer.
     Piece(Octets),

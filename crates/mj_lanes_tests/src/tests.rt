@@ -2,7 +2,8 @@ ghost use Rattle.std.specs.Prelude.{◌≡◌, ◌<◌, None, length};
 
 use mj_base::{Event, MemorySink, MemorySource, NoMemory, Octets};
 use mj_lanes::{
-    Clock, HubPass, LanePass, TickPass, gather, lanes_new, read_loop, tick_loop, write_loop,
+    Clock, HubPass, LanePass, TickPass, WriterPass, gather, lanes_new, read_loop, tick_loop,
+    write_loop,
 };
 use std::alloc::{AllocError, Global};
 use std::sync::Wait;
@@ -77,16 +78,14 @@ fn send_both<R: Wait + Threads + Drop + Send + Sync>(
     )
 }
 
-/// Two readers in threads of their own send to a hub, and then all passes are taken back. The answer is what the
-/// hub took.
+/// What the hub took of two readers that send in threads of their own.
 fn run_two_readers<R: Wait + Threads + Copy + Drop + Send + Sync>(
     rt: R,
     alloc: Global,
 ) -> Result<Vec<Event>, NoMemory> {
     let of_first = three_of(alloc, b"a", b"bc", b"def")?;
     let of_second = three_of(alloc, b"12", b"3", b"4567")?;
-    let seen = Vec::new(alloc);
-    let (hub, mut readers, writers, ticks) = lanes_new(rt, alloc, 2)?;
+    let (hub, mut readers, _writers, _ticks) = lanes_new(rt, alloc, 2)?;
     let Some(second) = readers.pop() else {
         unreachable!();
     };
@@ -94,15 +93,20 @@ fn run_two_readers<R: Wait + Threads + Copy + Drop + Send + Sync>(
         unreachable!();
     };
     let shared = &rt;
-    let ((first, second), (hub, seen)) = thread::join(
+    let (_passes, (_hub, seen)) = thread::join(
         shared,
         move || send_both(shared, first, second, of_first, of_second),
-        move || take_eight(hub, seen),
+        move || take_eight(hub, Vec::new(alloc)),
     );
-    readers.push(first)?;
-    readers.push(second)?;
-    gather(hub, readers, writers, ticks);
     Ok(seen)
+}
+
+/// A new hub's passes are taken back.
+#[test]
+fn all_passes_can_be_gathered(rt: HostRuntime) -> Result<(), Fail> {
+    let (hub, readers, writers, ticks) = lanes_new(rt, rt.alloc(), 2)?;
+    gather(hub, readers, writers, ticks);
+    Ok(())
 }
 
 /// What of these events is of the lane, as text.
@@ -250,10 +254,18 @@ fn read_over<R: Wait + Copy + Drop>(
     let Some(mut pass) = readers.pop() else {
         unreachable!();
     };
-    let mut source = MemorySource::new(counted(alloc, 70_000)?, vec![in alloc; failing]?);
-    read_loop(alloc, &mut pass, &mut source)?;
+    read_counted(alloc, &mut pass, failing)?;
     ticks.stop();
     take_until_stop(alloc, &mut hub)
+}
+
+fn read_counted<R: Wait + Copy>(
+    alloc: Global,
+    pass: &mut LanePass<R>,
+    failing: u64,
+) -> Result<(), NoMemory> {
+    let mut source = MemorySource::new(counted(alloc, 70_000)?, vec![in alloc; failing]?);
+    read_loop(alloc, pass, &mut source)
 }
 
 /// So many bytes, each the low byte of its place.
@@ -306,37 +318,50 @@ fn put_all<R: Wait>(alloc: Global, hub: &mut HubPass<R>) -> Result<(), NoMemory>
     Ok(())
 }
 
-/// What a writer writes, tells and leaves where the write of this number, from 0, fails.
+/// What the pass's writer writes, and then what is left for the next one, where the write of this number, from 0, fails.
+fn written_over<R: Wait + Copy>(
+    alloc: Global,
+    pass: &mut WriterPass<R>,
+    failing: u64,
+) -> Result<Octets, NoMemory> {
+    let mut sink = MemorySink::new(alloc, vec![in alloc; failing]?);
+    write_loop(pass, &mut sink)?;
+    let mut written = octets_of(alloc, sink.written())?;
+    written.push_all(b" ")?;
+    if let Some(piece) = pass.take_piece() {
+        written.push_all(piece.as_slice())?;
+    }
+    Ok(written)
+}
+
+/// What a writer writes and leaves, and what it tells.
 fn write_over<R: Wait + Copy + Drop>(
     rt: R,
     alloc: Global,
     failing: u64,
-) -> Result<(MemorySink, Vec<Event>, Option<Octets>), NoMemory> {
+) -> Result<(Octets, Vec<Event>), NoMemory> {
     let (mut hub, _readers, mut writers, mut ticks) = lanes_new(rt, alloc, 1)?;
     let Some(mut pass) = writers.pop() else {
         unreachable!();
     };
     put_all(alloc, &mut hub)?;
-    let mut sink = MemorySink::new(alloc, vec![in alloc; failing]?);
-    write_loop(&mut pass, &mut sink)?;
+    let written = written_over(alloc, &mut pass, failing)?;
     ticks.stop();
-    let events = take_until_stop(alloc, &mut hub)?;
-    Ok((sink, events, pass.take_piece()))
+    Ok((written, take_until_stop(alloc, &mut hub)?))
 }
 
 #[test]
 fn a_writer_tells_of_what_was_written_before_a_failure(rt: HostRuntime) -> Result<(), Fail> {
-    for (failing, written, text) in [
-        (0, b"".as_slice(), "stop"),
-        (1, b"ab", "sent 0, stop"),
-        (2, b"abc", "sent 0, sent 0, stop"),
-        (3, b"abcdef", "sent 0, sent 0, sent 0, stop"),
+    for (failing, wanted, text) in [
+        (0, " next", "stop"),
+        (1, "ab next", "sent 0, stop"),
+        (2, "abc next", "sent 0, sent 0, stop"),
+        (3, "abcdef next", "sent 0, sent 0, sent 0, stop"),
     ] {
-        let (sink, events, next) = write_over(rt, rt.alloc(), failing)?;
+        let (written, events) = write_over(rt, rt.alloc(), failing)?;
         let is = shown(rt.alloc(), events.as_slice())?;
-        assert!(rt; sink.written() == written);
+        assert!(rt; written.as_slice() == wanted.as_bytes());
         assert!(rt; is.as_str() == text, "{is}");
-        assert!(rt; next.is_some_and(|piece| piece.as_slice() == b"next".as_slice()));
     }
     Ok(())
 }

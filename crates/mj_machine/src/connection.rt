@@ -2,7 +2,7 @@ use super::Lengths;
 use mj_base::{Name, Version};
 
 /// One connection, from its opening to its end.
-#[derive(Debug, Drop)]
+#[derive(Drop)]
 pub struct Connection {
     pub lane: u32,
     /// 1, 2, 3 and so on, and never used again.
@@ -13,7 +13,7 @@ pub struct Connection {
 }
 
 /// What a connection's messages have made of it.
-#[derive(Debug, Drop)]
+#[derive(Drop)]
 pub enum Role {
     /// It has sent no message.
     Fresh,
@@ -26,7 +26,7 @@ pub enum Role {
 }
 
 /// What a worker's READY says (ZeroMQ RFC 7, READY), and when it was last heard and spoken to.
-#[derive(Debug, Drop)]
+#[derive(Drop)]
 pub struct Registration {
     pub version: Version,
     pub lead: bool,
@@ -38,7 +38,7 @@ pub struct Registration {
 }
 
 /// How a worker is spoken to: its version, and whether the empty frame stands first.
-#[derive(Clone, Copy, Debug, PartialEq, Eq)]
+#[derive(Clone, Copy)]
 pub struct Voice {
     pub version: Version,
     pub lead: bool,

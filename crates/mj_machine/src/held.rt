@@ -1,7 +1,7 @@
 use mj_queue::Request;
 
 /// A request that a worker holds, with an empty body: the worker has the body.
-#[derive(Debug, Drop)]
+#[derive(Drop)]
 pub struct Held {
     /// The number of the worker's connection.
     pub worker: u64,

@@ -6,7 +6,7 @@ use std::collections::VecDeque;
 use std::marker::Model;
 
 /// A list of lengths in bytes, and their sum.
-#[derive(Debug, Drop)]
+#[derive(Drop)]
 pub struct Lengths {
     lengths: VecDeque<u64>,
     total: u64,

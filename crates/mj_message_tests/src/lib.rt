@@ -4,4 +4,6 @@
 #[cfg(test)]
 mod client_messages;
 #[cfg(test)]
+mod text;
+#[cfg(test)]
 mod worker_messages;

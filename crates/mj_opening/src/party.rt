@@ -1,5 +1,5 @@
 /// With whom the broker speaks in a message.
-#[derive(Clone, Copy, Debug, PartialEq, Eq)]
+#[derive(Clone, Copy)]
 pub enum Party {
     /// Majordomo/Client: `MDPC01`, `MDPC02`.
     Clients,

@@ -7,7 +7,7 @@ use super::line::LINE_BYTES;
 use super::progress::Progress;
 
 /// What stands at the front of the pending bytes.
-#[derive(Clone, Copy, Debug, PartialEq, Eq)]
+#[derive(Clone, Copy)]
 pub enum Front {
     /// A line of so many bytes, and its newline.
     Line(usize),

@@ -1,7 +1,7 @@
 use mj_base::Event;
 
 /// What a line of a script says.
-#[derive(Debug, Drop)]
+#[derive(Drop)]
 pub enum Meaning {
     /// This event comes.
     Act(Event),

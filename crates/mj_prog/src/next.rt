@@ -11,7 +11,7 @@ use mj_base::{Event, Source};
 use std::alloc::Global;
 
 /// What a script says next.
-#[derive(Debug, Drop)]
+#[derive(Drop)]
 pub enum Next {
     /// This event comes.
     Act(Event),

@@ -1,7 +1,7 @@
 ghost use Rattle.std.specs.Prelude.{◌+◌, ◌≤◌, ◌^◌, length};
 
 /// How far a script was read and acted on.
-#[derive(Debug, Drop)]
+#[derive(Drop)]
 pub struct Progress {
     /// Lanes that its lines may name.
     pub lanes: u32,

@@ -12,7 +12,7 @@ use mj_base::{ReadAnswer, Source};
 const READ_BYTES: u64 = 4_096;
 
 /// What became of a read behind the bytes of a buffer.
-#[derive(Clone, Copy, Debug, PartialEq, Eq)]
+#[derive(Clone, Copy)]
 enum Filled {
     /// So many bytes were appended, at least one.
     Got(usize),

@@ -9,7 +9,7 @@ use mj_broker::Broker;
 use std::alloc::Global;
 
 /// How a run went.
-#[derive(Debug, Drop)]
+#[derive(Drop)]
 pub struct Run {
     /// Why it ended.
     pub halt: Halt,

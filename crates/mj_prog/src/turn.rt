@@ -17,7 +17,7 @@ use mj_broker::{Broker, EventFault};
 use std::alloc::Global;
 
 /// Why a run takes no further event.
-#[derive(Clone, Copy, Debug, PartialEq, Eq)]
+#[derive(Clone, Copy)]
 pub enum Halt {
     /// The script has no further event.
     Over,

@@ -7,7 +7,7 @@ use super::number::read_number;
 use hex::FromHex;
 
 /// The options of a replay.
-#[derive(Clone, Copy, Debug, PartialEq, Eq)]
+#[derive(Clone, Copy)]
 pub struct Options {
     /// Lanes that a script may name, 1 to 64.
     pub lanes: u32,
@@ -16,7 +16,7 @@ pub struct Options {
 }
 
 /// What the search for the value of an option gives.
-#[derive(Clone, Copy, Debug, PartialEq, Eq)]
+#[derive(Clone, Copy)]
 enum Found {
     /// The option isn't given.
     Nowhere,

@@ -2,9 +2,9 @@
 #![tactic(auto)]
 
 #[cfg(test)]
-mod broker;
-#[cfg(test)]
 mod routed_runs;
+#[cfg(test)]
+mod runs;
 #[cfg(test)]
 mod tests;
 #[cfg(test)]

@@ -1,648 +1,467 @@
 //! The worked runs of clients and workers, from script to printed lines.
+use super::runs::{add_line, first_wrong_run};
 use super::tests::printed;
 use std::alloc::Global;
 use std::test::Fail;
 
-/// A line of a run: its front, and its hex digits. Lines of the script stand before what must be printed at them.
-type Line = (&'static str, &'static str);
+const ROUTED: &str = "\
+# Two workers and three requests, the third of which waits.
+open 0
+  put 0 GREETING
+bytes 0 HELLO
+  put 0 READY
+open 1
+  put 1 GREETING
+bytes 1 HELLO
+  put 1 READY
+open 2
+  put 2 GREETING
+bytes 2 HELLO
+  put 2 READY
+bytes 0 READY_ECHO
+bytes 1 READY_ECHO
+bytes 2 ASK_A
+  put 0 REQUEST_A_OF_3
+bytes 2 ASK_B
+  put 1 REQUEST_B_OF_3
+bytes 2 ASK_C
+bytes 1 REPLY_B_TO_3
+  put 2 ANSWER_B
+  put 1 REQUEST_C_OF_3
+  done 12
 
-const GREETING: &str = "ff00000000000000007f03004e554c4c00000000000000000000000000000000\
-0000000000000000000000000000000000000000000000000000000000000000";
+# A reply to another than the asker.
+open 0
+  put 0 GREETING
+bytes 0 HELLO
+  put 0 READY
+open 1
+  put 1 GREETING
+bytes 1 HELLO
+  put 1 READY
+open 2
+  put 2 GREETING
+bytes 2 HELLO
+  put 2 READY
+bytes 0 READY_ECHO
+bytes 1 READY_ECHO
+bytes 2 ASK_A
+  put 0 REQUEST_A_OF_3
+bytes 2 ASK_B
+  put 1 REQUEST_B_OF_3
+bytes 2 ASK_C
+bytes 0 REPLY_Z_TO_9
+  put 0 DISCONNECT
+bytes 0 REPLY_A_TO_3
+  done 13
 
-const HELLO: &str = "ff00000000000000007f03004e554c4c00000000000000000000000000000000\
-0000000000000000000000000000000000000000000000000000000000000000\
-041c0552454144590b536f636b65742d54797065000000064445414c4552";
+# READY twice.
+open 0
+  put 0 GREETING
+bytes 0 HELLO
+  put 0 READY
+bytes 0 READY_ECHO
+bytes 0 READY_ECHO
+  put 0 DISCONNECT
+bytes 0 READY_ECHO
+  done 5
 
-const HELLO_OF_REQ: &str = "ff00000000000000007f03004e554c4c00000000000000000000000000000000\
-0000000000000000000000000000000000000000000000000000000000000000\
-04190552454144590b536f636b65742d5479706500000003524551";
+# HEARTBEAT and DISCONNECT of one that never registered.
+open 0
+  put 0 GREETING
+bytes 0 HELLO
+  put 0 READY
+open 1
+  put 1 GREETING
+bytes 1 HELLO
+  put 1 READY
+bytes 0 HEARTBEAT
+  put 0 DISCONNECT
+bytes 1 DISCONNECT
+  done 6
 
-const READY: &str = "041c0552454144590b536f636b65742d5479706500000006524f55544552";
+# The asker goes while its request is held, and another one comes on its lane.
+open 0
+  put 0 GREETING
+bytes 0 HELLO
+  put 0 READY
+open 1
+  put 1 GREETING
+bytes 1 HELLO
+  put 1 READY
+bytes 0 READY_ECHO
+bytes 1 ASK_A
+  put 0 REQUEST_A_OF_2
+close 1
+open 1
+  put 1 GREETING
+bytes 1 HELLO
+  put 1 READY
+bytes 1 WHO_SERVES_ECHO
+  put 1 SERVED
+bytes 0 REPLY_A_TO_2
+bytes 1 WHO_SERVES_ECHO
+  put 1 SERVED
+  done 12
 
-const READY_ECHO: &str = "010001064d445057303101010100046563686f";
+# A client goes while its request is queued.
+open 0
+  put 0 GREETING
+bytes 0 HELLO
+  put 0 READY
+bytes 0 ASK_A
+close 0
+open 1
+  put 1 GREETING
+bytes 1 HELLO
+  put 1 READY
+bytes 1 READY_ECHO
+  done 7
 
-const READY_MMI: &str = "010001064d445057303101010100056d6d692e78";
+# A worker's lane opens again: the old worker is gone, and the new peer may register.
+open 0
+  put 0 GREETING
+bytes 0 HELLO
+  put 0 READY
+bytes 0 READY_ECHO
+open 1
+  put 1 GREETING
+bytes 1 HELLO
+  put 1 READY
+open 0
+  put 0 GREETING
+bytes 0 HELLO
+  put 0 READY
+bytes 1 WHO_SERVES_ECHO
+  put 1 NOT_SERVED
+bytes 0 READY_ECHO
+bytes 1 ASK_A
+  put 0 REQUEST_A_OF_2
+  done 10
 
-const READY_TITANIC: &str = "010001064d44505730310101010009746974616e69632e78";
+# READY for a name of the broker's own, and for one of Titanic's.
+open 0
+  put 0 GREETING
+bytes 0 HELLO
+  put 0 READY
+open 1
+  put 1 GREETING
+bytes 1 HELLO
+  put 1 READY
+open 2
+  put 2 GREETING
+bytes 2 HELLO
+  put 2 READY
+bytes 0 READY_MMI
+  put 0 DISCONNECT
+bytes 1 READY_TITANIC
+bytes 2 WHO_SERVES_TITANIC
+  put 2 SERVED
+  done 9
 
-const HEARTBEAT: &str = "010001064d4450573031000104";
+# A request is handed out before the fault behind it ends its asker.
+open 0
+  put 0 GREETING
+bytes 0 HELLO
+  put 0 READY
+open 1
+  put 1 GREETING
+bytes 1 HELLO
+  put 1 READY
+bytes 0 READY_ECHO
+bytes 1 ASK_A_AND_A_FAULT
+  put 0 REQUEST_A_OF_2
+  end 1 bad-flags 113
+bytes 0 REPLY_A_TO_2
+  done 7
 
-const DISCONNECT: &str = "010001064d4450573031000105";
-
-const ASK_A: &str = "010001064d445043303101046563686f000161";
-
-const ASK_B: &str = "010001064d445043303101046563686f000162";
-
-const ASK_C: &str = "010001064d445043303101046563686f000163";
-
-const ANSWER_A: &str = "010001064d445043303101046563686f000141";
-
-const ANSWER_B: &str = "010001064d445043303101046563686f000142";
-
-const REQUEST_A_OF_3: &str = "010001064d445057303101010201094300000000000000030100000161";
-
-const REQUEST_B_OF_3: &str = "010001064d445057303101010201094300000000000000030100000162";
-
-const REQUEST_C_OF_3: &str = "010001064d445057303101010201094300000000000000030100000163";
-
-const REQUEST_A_OF_2: &str = "010001064d445057303101010201094300000000000000020100000161";
-
-const REPLY_A_TO_3: &str = "010001064d445057303101010301094300000000000000030100000141";
-
-const REPLY_B_TO_3: &str = "010001064d445057303101010301094300000000000000030100000142";
-
-const REPLY_A_TO_2: &str = "010001064d445057303101010301094300000000000000020100000141";
-
-const REPLY_Z_TO_9: &str = "010001064d44505730310101030109430000000000000009010000017a";
-
-const WHO_SERVES_ECHO: &str = "010001064d4450433031010b6d6d692e7365727669636500046563686f";
-
-const WHO_SERVES_TITANIC: &str =
-    "010001064d4450433031010b6d6d692e736572766963650009746974616e69632e78";
-
-const SERVED: &str = "010001064d4450433031010b6d6d692e736572766963650003323030";
-
-const NOT_SERVED: &str = "010001064d4450433031010b6d6d692e736572766963650003343034";
-
-const ASK_A_AND_A_FAULT: &str = "010001064d445043303101046563686f00016108";
-
-const READY_ECHO_TWO: &str = "01064d445057303201010100046563686f";
-
-const READY_ECHO_TWO_LED: &str = "010001064d445057303201010100046563686f";
-
-const READY_SUM_TWO: &str = "01064d4450573032010101000373756d";
-
-const HEARTBEAT_TWO: &str = "01064d4450573032000105";
-
-const DISCONNECT_TWO: &str = "01064d4450573032000106";
-
-const REQUEST_A_OF_2_TWO: &str = "01064d445057303201010201094300000000000000020100000161";
-
-const REQUEST_A_OF_2_TWO_LED: &str = "010001064d445057303201010201094300000000000000020100000161";
-
-const REQUEST_B_OF_3_TWO: &str = "01064d445057303201010201094300000000000000030100000162";
-
-const PART_P_TO_2_TWO: &str = "01064d445057303201010301094300000000000000020100000170";
-
-const PART_Q_TO_2_TWO: &str = "01064d445057303201010301094300000000000000020100000171";
-
-const FINAL_F_TO_2_TWO: &str = "01064d445057303201010401094300000000000000020100000166";
-
-const PART_P_TO_3_TWO: &str = "01064d445057303201010301094300000000000000030100000170";
-
-const PART_Q_TO_3_TWO: &str = "01064d445057303201010301094300000000000000030100000171";
-
-const FINAL_F_TO_3_TWO: &str = "01064d445057303201010401094300000000000000030100000166";
-
-const FINAL_A_TO_2_TWO: &str = "01064d445057303201010401094300000000000000020100000141";
-
-const ASK_A_TWO: &str = "01064d445043303201010101046563686f000161";
-
-const ASK_B_TWO: &str = "01064d445043303201010101046563686f000162";
-
-const ANSWER_A_TWO: &str = "01064d445043303201010301046563686f000141";
-
-const ANSWER_F: &str = "010001064d445043303101046563686f000166";
-
-const PART_P_TWO: &str = "01064d445043303201010201046563686f000170";
-
-const PART_Q_TWO: &str = "01064d445043303201010201046563686f000171";
-
-const ANSWER_F_TWO: &str = "01064d445043303201010301046563686f000166";
-
-const ASK_SUM_TWO: &str = "01064d4450433032010101010373756d010131000132";
-
-const REQUEST_SUM_OF_4_TWO: &str = "01064d445057303201010201094300000000000000040100010131000132";
-
-const PART_HALF_TO_4_TWO: &str = "01064d445057303201010301094300000000000000040100000468616c66";
-
-const PART_HALF_TWO: &str = "01064d4450433032010102010373756d000468616c66";
-
-const FINAL_SUM_TO_4_TWO: &str = "01064d445057303201010401094300000000000000040100000133";
-
-const ANSWER_SUM_TWO: &str = "01064d4450433032010103010373756d000133";
-
-const NO_COMMAND: &str = "000178";
-
-fn add_line(text: &mut Vec<u8>, front: &str, digits: &str) -> Result<(), Fail> {
-    text.extend_from_slice(front.as_bytes())?;
-    text.extend_from_slice(digits.as_bytes())?;
-    text.push(b'\n')?;
-    Ok(())
-}
-
-fn is_printed(line: &Line) -> bool {
-    line.0.starts_with("put ") || line.0.starts_with("end ") || line.0.starts_with("done ")
-}
-
-/// The script of a run, or what it must print.
-fn lines_of(alloc: Global, run: &[Line], printed: bool) -> Result<Vec<u8>, Fail> {
-    let mut text = Vec::new(alloc);
-    for line in run {
-        if is_printed(line) == printed {
-            add_line(&mut text, line.0, line.1)?;
-        }
-    }
-    Ok(text)
-}
+# The asker is still connected, but is passed over.
+open 0
+  put 0 GREETING
+bytes 0 HELLO
+  put 0 READY
+open 1
+  put 1 GREETING
+bytes 1 HELLO
+  put 1 READY
+bytes 0 READY_ECHO
+bytes 1 ASK_A
+  put 0 REQUEST_A_OF_2
+bytes 1 NO_COMMAND
+bytes 0 REPLY_A_TO_2
+  done 8
+";
 
 #[test]
 fn clients_and_workers_are_routed_or_refused(rt: HostRuntime) -> Result<(), Fail> {
-    let runs: [&[Line]; 10] = [
-        // Two workers and three requests, the third of which waits.
-        &[
-            ("open 0", ""),
-            ("put 0 ", GREETING),
-            ("bytes 0 ", HELLO),
-            ("put 0 ", READY),
-            ("open 1", ""),
-            ("put 1 ", GREETING),
-            ("bytes 1 ", HELLO),
-            ("put 1 ", READY),
-            ("open 2", ""),
-            ("put 2 ", GREETING),
-            ("bytes 2 ", HELLO),
-            ("put 2 ", READY),
-            ("bytes 0 ", READY_ECHO),
-            ("bytes 1 ", READY_ECHO),
-            ("bytes 2 ", ASK_A),
-            ("put 0 ", REQUEST_A_OF_3),
-            ("bytes 2 ", ASK_B),
-            ("put 1 ", REQUEST_B_OF_3),
-            ("bytes 2 ", ASK_C),
-            ("bytes 1 ", REPLY_B_TO_3),
-            ("put 2 ", ANSWER_B),
-            ("put 1 ", REQUEST_C_OF_3),
-            ("done 12", ""),
-        ],
-        // A reply to another than the asker.
-        &[
-            ("open 0", ""),
-            ("put 0 ", GREETING),
-            ("bytes 0 ", HELLO),
-            ("put 0 ", READY),
-            ("open 1", ""),
-            ("put 1 ", GREETING),
-            ("bytes 1 ", HELLO),
-            ("put 1 ", READY),
-            ("open 2", ""),
-            ("put 2 ", GREETING),
-            ("bytes 2 ", HELLO),
-            ("put 2 ", READY),
-            ("bytes 0 ", READY_ECHO),
-            ("bytes 1 ", READY_ECHO),
-            ("bytes 2 ", ASK_A),
-            ("put 0 ", REQUEST_A_OF_3),
-            ("bytes 2 ", ASK_B),
-            ("put 1 ", REQUEST_B_OF_3),
-            ("bytes 2 ", ASK_C),
-            ("bytes 0 ", REPLY_Z_TO_9),
-            ("put 0 ", DISCONNECT),
-            ("bytes 0 ", REPLY_A_TO_3),
-            ("done 13", ""),
-        ],
-        // READY twice.
-        &[
-            ("open 0", ""),
-            ("put 0 ", GREETING),
-            ("bytes 0 ", HELLO),
-            ("put 0 ", READY),
-            ("bytes 0 ", READY_ECHO),
-            ("bytes 0 ", READY_ECHO),
-            ("put 0 ", DISCONNECT),
-            ("bytes 0 ", READY_ECHO),
-            ("done 5", ""),
-        ],
-        // HEARTBEAT and DISCONNECT of one that never registered.
-        &[
-            ("open 0", ""),
-            ("put 0 ", GREETING),
-            ("bytes 0 ", HELLO),
-            ("put 0 ", READY),
-            ("open 1", ""),
-            ("put 1 ", GREETING),
-            ("bytes 1 ", HELLO),
-            ("put 1 ", READY),
-            ("bytes 0 ", HEARTBEAT),
-            ("put 0 ", DISCONNECT),
-            ("bytes 1 ", DISCONNECT),
-            ("done 6", ""),
-        ],
-        // The asker goes while its request is held, and another one comes on its lane.
-        &[
-            ("open 0", ""),
-            ("put 0 ", GREETING),
-            ("bytes 0 ", HELLO),
-            ("put 0 ", READY),
-            ("open 1", ""),
-            ("put 1 ", GREETING),
-            ("bytes 1 ", HELLO),
-            ("put 1 ", READY),
-            ("bytes 0 ", READY_ECHO),
-            ("bytes 1 ", ASK_A),
-            ("put 0 ", REQUEST_A_OF_2),
-            ("close 1", ""),
-            ("open 1", ""),
-            ("put 1 ", GREETING),
-            ("bytes 1 ", HELLO),
-            ("put 1 ", READY),
-            ("bytes 1 ", WHO_SERVES_ECHO),
-            ("put 1 ", SERVED),
-            ("bytes 0 ", REPLY_A_TO_2),
-            ("bytes 1 ", WHO_SERVES_ECHO),
-            ("put 1 ", SERVED),
-            ("done 12", ""),
-        ],
-        // A client goes while its request is queued.
-        &[
-            ("open 0", ""),
-            ("put 0 ", GREETING),
-            ("bytes 0 ", HELLO),
-            ("put 0 ", READY),
-            ("bytes 0 ", ASK_A),
-            ("close 0", ""),
-            ("open 1", ""),
-            ("put 1 ", GREETING),
-            ("bytes 1 ", HELLO),
-            ("put 1 ", READY),
-            ("bytes 1 ", READY_ECHO),
-            ("done 7", ""),
-        ],
-        // A worker's lane opens again: the old worker is gone, and the new peer may register.
-        &[
-            ("open 0", ""),
-            ("put 0 ", GREETING),
-            ("bytes 0 ", HELLO),
-            ("put 0 ", READY),
-            ("bytes 0 ", READY_ECHO),
-            ("open 1", ""),
-            ("put 1 ", GREETING),
-            ("bytes 1 ", HELLO),
-            ("put 1 ", READY),
-            ("open 0", ""),
-            ("put 0 ", GREETING),
-            ("bytes 0 ", HELLO),
-            ("put 0 ", READY),
-            ("bytes 1 ", WHO_SERVES_ECHO),
-            ("put 1 ", NOT_SERVED),
-            ("bytes 0 ", READY_ECHO),
-            ("bytes 1 ", ASK_A),
-            ("put 0 ", REQUEST_A_OF_2),
-            ("done 10", ""),
-        ],
-        // READY for a name of the broker's own, and for one of Titanic's.
-        &[
-            ("open 0", ""),
-            ("put 0 ", GREETING),
-            ("bytes 0 ", HELLO),
-            ("put 0 ", READY),
-            ("open 1", ""),
-            ("put 1 ", GREETING),
-            ("bytes 1 ", HELLO),
-            ("put 1 ", READY),
-            ("open 2", ""),
-            ("put 2 ", GREETING),
-            ("bytes 2 ", HELLO),
-            ("put 2 ", READY),
-            ("bytes 0 ", READY_MMI),
-            ("put 0 ", DISCONNECT),
-            ("bytes 1 ", READY_TITANIC),
-            ("bytes 2 ", WHO_SERVES_TITANIC),
-            ("put 2 ", SERVED),
-            ("done 9", ""),
-        ],
-        // A request is handed out before the fault behind it ends its asker.
-        &[
-            ("open 0", ""),
-            ("put 0 ", GREETING),
-            ("bytes 0 ", HELLO),
-            ("put 0 ", READY),
-            ("open 1", ""),
-            ("put 1 ", GREETING),
-            ("bytes 1 ", HELLO),
-            ("put 1 ", READY),
-            ("bytes 0 ", READY_ECHO),
-            ("bytes 1 ", ASK_A_AND_A_FAULT),
-            ("put 0 ", REQUEST_A_OF_2),
-            ("end 1 bad-flags 113", ""),
-            ("bytes 0 ", REPLY_A_TO_2),
-            ("done 7", ""),
-        ],
-        // The asker is still connected, but is passed over.
-        &[
-            ("open 0", ""),
-            ("put 0 ", GREETING),
-            ("bytes 0 ", HELLO),
-            ("put 0 ", READY),
-            ("open 1", ""),
-            ("put 1 ", GREETING),
-            ("bytes 1 ", HELLO),
-            ("put 1 ", READY),
-            ("bytes 0 ", READY_ECHO),
-            ("bytes 1 ", ASK_A),
-            ("put 0 ", REQUEST_A_OF_2),
-            ("bytes 1 ", NO_COMMAND),
-            ("bytes 0 ", REPLY_A_TO_2),
-            ("done 8", ""),
-        ],
-    ];
-    for run in runs.iter() {
-        let script = lines_of(rt.alloc(), run, false)?;
-        let (text, status) = printed(rt.alloc(), &["-", "replay"], script.as_slice(), &[], &[])?;
-        let wanted = lines_of(rt.alloc(), run, true)?;
-        assert_eq!(rt; text.as_slice(), wanted.as_slice());
-        assert_eq!(rt; status, 0);
-    }
+    assert_eq!(rt; first_wrong_run(rt.alloc(), ROUTED)?, None);
     Ok(())
 }
+
+const LEASES: &str = "\
+# A waiting worker's lease of 7,500 ms.
+open 0
+  put 0 GREETING
+bytes 0 HELLO
+  put 0 READY
+bytes 0 READY_ECHO
+open 1
+  put 1 GREETING
+bytes 1 HELLO
+  put 1 READY
+tick 7499
+  put 0 HEARTBEAT
+bytes 1 WHO_SERVES_ECHO
+  put 1 SERVED
+tick 7500
+bytes 1 WHO_SERVES_ECHO
+  put 1 NOT_SERVED
+bytes 0 HEARTBEAT
+  put 0 DISCONNECT
+  done 10
+
+# A busy worker's lease of 60,000 ms.
+open 0
+  put 0 GREETING
+bytes 0 HELLO
+  put 0 READY
+bytes 0 READY_ECHO
+open 1
+  put 1 GREETING
+bytes 1 HELLO
+  put 1 READY
+bytes 1 ASK_A
+  put 0 REQUEST_A_OF_2
+tick 59999
+  put 0 HEARTBEAT
+bytes 0 REPLY_A_TO_2
+  put 1 ANSWER_A
+  done 8
+
+# It has ended.
+open 0
+  put 0 GREETING
+bytes 0 HELLO
+  put 0 READY
+bytes 0 READY_ECHO
+open 1
+  put 1 GREETING
+bytes 1 HELLO
+  put 1 READY
+bytes 1 ASK_A
+  put 0 REQUEST_A_OF_2
+tick 60000
+bytes 0 REPLY_A_TO_2
+  put 0 DISCONNECT
+  done 8
+
+# A heartbeat after 2,500 ms; time doesn't go back.
+open 0
+  put 0 GREETING
+bytes 0 HELLO
+  put 0 READY
+bytes 0 READY_ECHO
+tick 2499
+tick 2500
+  put 0 HEARTBEAT
+tick 100
+  done 6
+
+# A request puts the heartbeat off.
+open 0
+  put 0 GREETING
+bytes 0 HELLO
+  put 0 READY
+bytes 0 READY_ECHO
+open 1
+  put 1 GREETING
+bytes 1 HELLO
+  put 1 READY
+tick 2000
+bytes 1 ASK_A
+  put 0 REQUEST_A_OF_2
+tick 4499
+tick 4500
+  put 0 HEARTBEAT
+  done 9
+
+# A worker that registers at 5,000 ms, behind an earlier moment.
+open 0
+  put 0 GREETING
+bytes 0 HELLO
+  put 0 READY
+open 1
+  put 1 GREETING
+bytes 1 HELLO
+  put 1 READY
+tick 5000
+tick 100
+bytes 0 READY_ECHO
+tick 7499
+tick 7500
+  put 0 HEARTBEAT
+tick 12499
+  put 0 HEARTBEAT
+bytes 1 WHO_SERVES_ECHO
+  put 1 SERVED
+tick 12500
+bytes 1 WHO_SERVES_ECHO
+  put 1 NOT_SERVED
+  done 13
+
+# A busy worker's lease begins at the request.
+open 0
+  put 0 GREETING
+bytes 0 HELLO
+  put 0 READY
+bytes 0 READY_ECHO
+open 1
+  put 1 GREETING
+bytes 1 HELLO
+  put 1 READY
+tick 7000
+  put 0 HEARTBEAT
+bytes 1 ASK_A
+  put 0 REQUEST_A_OF_2
+tick 66999
+  put 0 HEARTBEAT
+tick 67000
+bytes 0 REPLY_A_TO_2
+  put 0 DISCONNECT
+  done 10
+";
 
 #[test]
 fn leases_end_and_heartbeats_are_sent(rt: HostRuntime) -> Result<(), Fail> {
-    let runs: [&[Line]; 7] = [
-        // A waiting worker's lease of 7,500 ms.
-        &[
-            ("open 0", ""),
-            ("put 0 ", GREETING),
-            ("bytes 0 ", HELLO),
-            ("put 0 ", READY),
-            ("bytes 0 ", READY_ECHO),
-            ("open 1", ""),
-            ("put 1 ", GREETING),
-            ("bytes 1 ", HELLO),
-            ("put 1 ", READY),
-            ("tick 7499", ""),
-            ("put 0 ", HEARTBEAT),
-            ("bytes 1 ", WHO_SERVES_ECHO),
-            ("put 1 ", SERVED),
-            ("tick 7500", ""),
-            ("bytes 1 ", WHO_SERVES_ECHO),
-            ("put 1 ", NOT_SERVED),
-            ("bytes 0 ", HEARTBEAT),
-            ("put 0 ", DISCONNECT),
-            ("done 10", ""),
-        ],
-        // A busy worker's lease of 60,000 ms.
-        &[
-            ("open 0", ""),
-            ("put 0 ", GREETING),
-            ("bytes 0 ", HELLO),
-            ("put 0 ", READY),
-            ("bytes 0 ", READY_ECHO),
-            ("open 1", ""),
-            ("put 1 ", GREETING),
-            ("bytes 1 ", HELLO),
-            ("put 1 ", READY),
-            ("bytes 1 ", ASK_A),
-            ("put 0 ", REQUEST_A_OF_2),
-            ("tick 59999", ""),
-            ("put 0 ", HEARTBEAT),
-            ("bytes 0 ", REPLY_A_TO_2),
-            ("put 1 ", ANSWER_A),
-            ("done 8", ""),
-        ],
-        // It has ended.
-        &[
-            ("open 0", ""),
-            ("put 0 ", GREETING),
-            ("bytes 0 ", HELLO),
-            ("put 0 ", READY),
-            ("bytes 0 ", READY_ECHO),
-            ("open 1", ""),
-            ("put 1 ", GREETING),
-            ("bytes 1 ", HELLO),
-            ("put 1 ", READY),
-            ("bytes 1 ", ASK_A),
-            ("put 0 ", REQUEST_A_OF_2),
-            ("tick 60000", ""),
-            ("bytes 0 ", REPLY_A_TO_2),
-            ("put 0 ", DISCONNECT),
-            ("done 8", ""),
-        ],
-        // A heartbeat after 2,500 ms; time doesn't go back.
-        &[
-            ("open 0", ""),
-            ("put 0 ", GREETING),
-            ("bytes 0 ", HELLO),
-            ("put 0 ", READY),
-            ("bytes 0 ", READY_ECHO),
-            ("tick 2499", ""),
-            ("tick 2500", ""),
-            ("put 0 ", HEARTBEAT),
-            ("tick 100", ""),
-            ("done 6", ""),
-        ],
-        // A request puts the heartbeat off.
-        &[
-            ("open 0", ""),
-            ("put 0 ", GREETING),
-            ("bytes 0 ", HELLO),
-            ("put 0 ", READY),
-            ("bytes 0 ", READY_ECHO),
-            ("open 1", ""),
-            ("put 1 ", GREETING),
-            ("bytes 1 ", HELLO),
-            ("put 1 ", READY),
-            ("tick 2000", ""),
-            ("bytes 1 ", ASK_A),
-            ("put 0 ", REQUEST_A_OF_2),
-            ("tick 4499", ""),
-            ("tick 4500", ""),
-            ("put 0 ", HEARTBEAT),
-            ("done 9", ""),
-        ],
-        // A worker that registers at 5,000 ms, behind an earlier moment.
-        &[
-            ("open 0", ""),
-            ("put 0 ", GREETING),
-            ("bytes 0 ", HELLO),
-            ("put 0 ", READY),
-            ("open 1", ""),
-            ("put 1 ", GREETING),
-            ("bytes 1 ", HELLO),
-            ("put 1 ", READY),
-            ("tick 5000", ""),
-            ("tick 100", ""),
-            ("bytes 0 ", READY_ECHO),
-            ("tick 7499", ""),
-            ("tick 7500", ""),
-            ("put 0 ", HEARTBEAT),
-            ("tick 12499", ""),
-            ("put 0 ", HEARTBEAT),
-            ("bytes 1 ", WHO_SERVES_ECHO),
-            ("put 1 ", SERVED),
-            ("tick 12500", ""),
-            ("bytes 1 ", WHO_SERVES_ECHO),
-            ("put 1 ", NOT_SERVED),
-            ("done 13", ""),
-        ],
-        // A busy worker's lease begins at the request.
-        &[
-            ("open 0", ""),
-            ("put 0 ", GREETING),
-            ("bytes 0 ", HELLO),
-            ("put 0 ", READY),
-            ("bytes 0 ", READY_ECHO),
-            ("open 1", ""),
-            ("put 1 ", GREETING),
-            ("bytes 1 ", HELLO),
-            ("put 1 ", READY),
-            ("tick 7000", ""),
-            ("put 0 ", HEARTBEAT),
-            ("bytes 1 ", ASK_A),
-            ("put 0 ", REQUEST_A_OF_2),
-            ("tick 66999", ""),
-            ("put 0 ", HEARTBEAT),
-            ("tick 67000", ""),
-            ("bytes 0 ", REPLY_A_TO_2),
-            ("put 0 ", DISCONNECT),
-            ("done 10", ""),
-        ],
-    ];
-    for run in runs.iter() {
-        let script = lines_of(rt.alloc(), run, false)?;
-        let (text, status) = printed(rt.alloc(), &["-", "replay"], script.as_slice(), &[], &[])?;
-        let wanted = lines_of(rt.alloc(), run, true)?;
-        assert_eq!(rt; text.as_slice(), wanted.as_slice());
-        assert_eq!(rt; status, 0);
-    }
+    assert_eq!(rt; first_wrong_run(rt.alloc(), LEASES)?, None);
     Ok(())
 }
 
+const VERSIONS: &str = "\
+# Partial replies go to a client of 0.2 alone.
+open 0
+  put 0 GREETING
+bytes 0 HELLO
+  put 0 READY
+open 1
+  put 1 GREETING
+bytes 1 HELLO
+  put 1 READY
+open 2
+  put 2 GREETING
+bytes 2 HELLO
+  put 2 READY
+bytes 0 READY_ECHO_TWO
+bytes 1 ASK_A
+  put 0 REQUEST_A_OF_2_TWO
+bytes 0 PART_P_TO_2_TWO
+bytes 0 PART_Q_TO_2_TWO
+bytes 0 FINAL_F_TO_2_TWO
+  put 1 ANSWER_F
+bytes 2 ASK_B_TWO
+  put 0 REQUEST_B_OF_3_TWO
+bytes 0 PART_P_TO_3_TWO
+  put 2 PART_P_TWO
+bytes 0 PART_Q_TO_3_TWO
+  put 2 PART_Q_TWO
+bytes 0 FINAL_F_TO_3_TWO
+  put 2 ANSWER_F_TWO
+  done 15
+
+# Each is answered with the empty frame or without it, as it began.
+open 0
+  put 0 GREETING
+bytes 0 HELLO
+  put 0 READY
+open 1
+  put 1 GREETING
+bytes 1 HELLO
+  put 1 READY
+bytes 0 READY_ECHO_TWO_LED
+bytes 1 ASK_A_TWO
+  put 0 REQUEST_A_OF_2_TWO_LED
+bytes 0 FINAL_A_TO_2_TWO
+  put 1 ANSWER_A_TWO
+  done 7
+
+# DISCONNECT in the worker's version, or in that of the refused word.
+open 0
+  put 0 GREETING
+bytes 0 HELLO
+  put 0 READY
+open 1
+  put 1 GREETING
+bytes 1 HELLO
+  put 1 READY
+open 2
+  put 2 GREETING
+bytes 2 HELLO
+  put 2 READY
+bytes 0 READY_ECHO_TWO
+bytes 0 HEARTBEAT
+  put 0 DISCONNECT_TWO
+bytes 1 READY_ECHO
+bytes 1 HEARTBEAT_TWO
+  put 1 DISCONNECT
+bytes 2 HEARTBEAT_TWO
+  put 2 DISCONNECT_TWO
+  done 11
+
+# Both versions in one run, over four heartbeats.
+open 0
+  put 0 GREETING
+bytes 0 HELLO
+  put 0 READY
+open 1
+  put 1 GREETING
+bytes 1 HELLO
+  put 1 READY
+open 2
+  put 2 GREETING
+bytes 2 HELLO_OF_REQ
+  put 2 READY
+open 3
+  put 3 GREETING
+bytes 3 HELLO
+  put 3 READY
+bytes 0 READY_ECHO
+bytes 1 READY_SUM_TWO
+bytes 2 ASK_A
+  put 0 REQUEST_A_OF_3
+bytes 0 REPLY_A_TO_3
+  put 2 ANSWER_A
+bytes 3 ASK_SUM_TWO
+  put 1 REQUEST_SUM_OF_4_TWO
+bytes 1 PART_HALF_TO_4_TWO
+  put 3 PART_HALF_TWO
+bytes 1 FINAL_SUM_TO_4_TWO
+  put 3 ANSWER_SUM_TWO
+tick 2500
+  put 0 HEARTBEAT
+  put 1 HEARTBEAT_TWO
+bytes 0 HEARTBEAT
+bytes 1 HEARTBEAT_TWO
+tick 5000
+  put 0 HEARTBEAT
+  put 1 HEARTBEAT_TWO
+bytes 0 HEARTBEAT
+bytes 1 HEARTBEAT_TWO
+tick 7500
+  put 0 HEARTBEAT
+  put 1 HEARTBEAT_TWO
+bytes 0 HEARTBEAT
+bytes 1 HEARTBEAT_TWO
+tick 10000
+  put 0 HEARTBEAT
+  put 1 HEARTBEAT_TWO
+bytes 0 HEARTBEAT
+bytes 1 HEARTBEAT_TWO
+  done 27
+";
+
 #[test]
 fn both_versions_are_spoken(rt: HostRuntime) -> Result<(), Fail> {
-    let runs: [&[Line]; 4] = [
-        // Partial replies go to a client of 0.2 alone.
-        &[
-            ("open 0", ""),
-            ("put 0 ", GREETING),
-            ("bytes 0 ", HELLO),
-            ("put 0 ", READY),
-            ("open 1", ""),
-            ("put 1 ", GREETING),
-            ("bytes 1 ", HELLO),
-            ("put 1 ", READY),
-            ("open 2", ""),
-            ("put 2 ", GREETING),
-            ("bytes 2 ", HELLO),
-            ("put 2 ", READY),
-            ("bytes 0 ", READY_ECHO_TWO),
-            ("bytes 1 ", ASK_A),
-            ("put 0 ", REQUEST_A_OF_2_TWO),
-            ("bytes 0 ", PART_P_TO_2_TWO),
-            ("bytes 0 ", PART_Q_TO_2_TWO),
-            ("bytes 0 ", FINAL_F_TO_2_TWO),
-            ("put 1 ", ANSWER_F),
-            ("bytes 2 ", ASK_B_TWO),
-            ("put 0 ", REQUEST_B_OF_3_TWO),
-            ("bytes 0 ", PART_P_TO_3_TWO),
-            ("put 2 ", PART_P_TWO),
-            ("bytes 0 ", PART_Q_TO_3_TWO),
-            ("put 2 ", PART_Q_TWO),
-            ("bytes 0 ", FINAL_F_TO_3_TWO),
-            ("put 2 ", ANSWER_F_TWO),
-            ("done 15", ""),
-        ],
-        // Each is answered with the empty frame or without it, as it began.
-        &[
-            ("open 0", ""),
-            ("put 0 ", GREETING),
-            ("bytes 0 ", HELLO),
-            ("put 0 ", READY),
-            ("open 1", ""),
-            ("put 1 ", GREETING),
-            ("bytes 1 ", HELLO),
-            ("put 1 ", READY),
-            ("bytes 0 ", READY_ECHO_TWO_LED),
-            ("bytes 1 ", ASK_A_TWO),
-            ("put 0 ", REQUEST_A_OF_2_TWO_LED),
-            ("bytes 0 ", FINAL_A_TO_2_TWO),
-            ("put 1 ", ANSWER_A_TWO),
-            ("done 7", ""),
-        ],
-        // DISCONNECT in the worker's version, or in that of the refused word.
-        &[
-            ("open 0", ""),
-            ("put 0 ", GREETING),
-            ("bytes 0 ", HELLO),
-            ("put 0 ", READY),
-            ("open 1", ""),
-            ("put 1 ", GREETING),
-            ("bytes 1 ", HELLO),
-            ("put 1 ", READY),
-            ("open 2", ""),
-            ("put 2 ", GREETING),
-            ("bytes 2 ", HELLO),
-            ("put 2 ", READY),
-            ("bytes 0 ", READY_ECHO_TWO),
-            ("bytes 0 ", HEARTBEAT),
-            ("put 0 ", DISCONNECT_TWO),
-            ("bytes 1 ", READY_ECHO),
-            ("bytes 1 ", HEARTBEAT_TWO),
-            ("put 1 ", DISCONNECT),
-            ("bytes 2 ", HEARTBEAT_TWO),
-            ("put 2 ", DISCONNECT_TWO),
-            ("done 11", ""),
-        ],
-        // Both versions in one run, over four heartbeats.
-        &[
-            ("open 0", ""),
-            ("put 0 ", GREETING),
-            ("bytes 0 ", HELLO),
-            ("put 0 ", READY),
-            ("open 1", ""),
-            ("put 1 ", GREETING),
-            ("bytes 1 ", HELLO),
-            ("put 1 ", READY),
-            ("open 2", ""),
-            ("put 2 ", GREETING),
-            ("bytes 2 ", HELLO_OF_REQ),
-            ("put 2 ", READY),
-            ("open 3", ""),
-            ("put 3 ", GREETING),
-            ("bytes 3 ", HELLO),
-            ("put 3 ", READY),
-            ("bytes 0 ", READY_ECHO),
-            ("bytes 1 ", READY_SUM_TWO),
-            ("bytes 2 ", ASK_A),
-            ("put 0 ", REQUEST_A_OF_3),
-            ("bytes 0 ", REPLY_A_TO_3),
-            ("put 2 ", ANSWER_A),
-            ("bytes 3 ", ASK_SUM_TWO),
-            ("put 1 ", REQUEST_SUM_OF_4_TWO),
-            ("bytes 1 ", PART_HALF_TO_4_TWO),
-            ("put 3 ", PART_HALF_TWO),
-            ("bytes 1 ", FINAL_SUM_TO_4_TWO),
-            ("put 3 ", ANSWER_SUM_TWO),
-            ("tick 2500", ""),
-            ("put 0 ", HEARTBEAT),
-            ("put 1 ", HEARTBEAT_TWO),
-            ("bytes 0 ", HEARTBEAT),
-            ("bytes 1 ", HEARTBEAT_TWO),
-            ("tick 5000", ""),
-            ("put 0 ", HEARTBEAT),
-            ("put 1 ", HEARTBEAT_TWO),
-            ("bytes 0 ", HEARTBEAT),
-            ("bytes 1 ", HEARTBEAT_TWO),
-            ("tick 7500", ""),
-            ("put 0 ", HEARTBEAT),
-            ("put 1 ", HEARTBEAT_TWO),
-            ("bytes 0 ", HEARTBEAT),
-            ("bytes 1 ", HEARTBEAT_TWO),
-            ("tick 10000", ""),
-            ("put 0 ", HEARTBEAT),
-            ("put 1 ", HEARTBEAT_TWO),
-            ("bytes 0 ", HEARTBEAT),
-            ("bytes 1 ", HEARTBEAT_TWO),
-            ("done 27", ""),
-        ],
-    ];
-    for run in runs.iter() {
-        let script = lines_of(rt.alloc(), run, false)?;
-        let (text, status) = printed(rt.alloc(), &["-", "replay"], script.as_slice(), &[], &[])?;
-        let wanted = lines_of(rt.alloc(), run, true)?;
-        assert_eq!(rt; text.as_slice(), wanted.as_slice());
-        assert_eq!(rt; status, 0);
-    }
+    assert_eq!(rt; first_wrong_run(rt.alloc(), VERSIONS)?, None);
     Ok(())
 }
 
@@ -655,7 +474,7 @@ fn long_script(alloc: Global, digit: u8) -> Result<Vec<u8>, Fail> {
     let mut piece = Vec::new(alloc);
     piece.resize(131_072, b'6')?;
     let mut script = Vec::from_slice(alloc, b"open 0\n")?;
-    add_line(&mut script, "bytes 0 ", HELLO)?;
+    add_line(&mut script, "bytes 0 HELLO")?;
     script.extend_from_slice(b"bytes 0 ")?;
     script.extend_from_slice(LONG_ASK.as_bytes())?;
     script.push(digit)?;
@@ -667,24 +486,20 @@ fn long_script(alloc: Global, digit: u8) -> Result<Vec<u8>, Fail> {
     script.extend_from_slice(b"\nbytes 0 ")?;
     script.extend_from_slice(piece.as_slice())?;
     script.push(b'\n')?;
-    add_line(&mut script, "bytes 0 ", WHO_SERVES_ECHO)?;
+    add_line(&mut script, "bytes 0 WHO_SERVES_ECHO")?;
     Ok(script)
 }
 
 #[test]
 fn a_request_of_the_greatest_size_is_queued(rt: HostRuntime) -> Result<(), Fail> {
-    let rows: [(u8, &str, &str); 2] = [
-        (b'6', "put 0 ", NOT_SERVED),
-        (b'7', "end 0 too-long 110", ""),
-    ];
-    for row in rows.iter() {
-        let script = long_script(rt.alloc(), row.0)?;
+    for (digit, last) in [(b'6', "put 0 NOT_SERVED"), (b'7', "end 0 too-long 110")] {
+        let script = long_script(rt.alloc(), digit)?;
         let (text, status) = printed(rt.alloc(), &["-", "replay"], script.as_slice(), &[], &[])?;
         let mut wanted = Vec::new(rt.alloc());
-        add_line(&mut wanted, "put 0 ", GREETING)?;
-        add_line(&mut wanted, "put 0 ", READY)?;
-        add_line(&mut wanted, row.1, row.2)?;
-        add_line(&mut wanted, "done 20", "")?;
+        add_line(&mut wanted, "put 0 GREETING")?;
+        add_line(&mut wanted, "put 0 READY")?;
+        add_line(&mut wanted, last)?;
+        add_line(&mut wanted, "done 20")?;
         assert_eq!(rt; text.as_slice(), wanted.as_slice());
         assert_eq!(rt; status, 0);
     }
@@ -695,20 +510,20 @@ fn a_request_of_the_greatest_size_is_queued(rt: HostRuntime) -> Result<(), Fail>
 fn a_peer_that_takes_nothing_is_cut_off(rt: HostRuntime) -> Result<(), Fail> {
     // 4,096 pieces may be on their way: greeting and READY, 94 bytes, and 4,094 answers of 28 bytes.
     let mut script = Vec::from_slice(rt.alloc(), b"open 0\n")?;
-    add_line(&mut script, "bytes 0 ", HELLO)?;
+    add_line(&mut script, "bytes 0 HELLO")?;
     let mut wanted = Vec::new(rt.alloc());
-    add_line(&mut wanted, "put 0 ", GREETING)?;
-    add_line(&mut wanted, "put 0 ", READY)?;
+    add_line(&mut wanted, "put 0 GREETING")?;
+    add_line(&mut wanted, "put 0 READY")?;
     for _ in 0..4_094 {
-        add_line(&mut script, "bytes 0 ", WHO_SERVES_ECHO)?;
-        add_line(&mut wanted, "put 0 ", NOT_SERVED)?;
+        add_line(&mut script, "bytes 0 WHO_SERVES_ECHO")?;
+        add_line(&mut wanted, "put 0 NOT_SERVED")?;
     }
-    add_line(&mut script, "sent 0", "")?;
-    add_line(&mut script, "bytes 0 ", WHO_SERVES_ECHO)?;
-    add_line(&mut script, "bytes 0 ", WHO_SERVES_ECHO)?;
-    add_line(&mut wanted, "put 0 ", NOT_SERVED)?;
-    add_line(&mut wanted, "end 0 slow 114690", "")?;
-    add_line(&mut wanted, "done 4099", "")?;
+    add_line(&mut script, "sent 0")?;
+    add_line(&mut script, "bytes 0 WHO_SERVES_ECHO")?;
+    add_line(&mut script, "bytes 0 WHO_SERVES_ECHO")?;
+    add_line(&mut wanted, "put 0 NOT_SERVED")?;
+    add_line(&mut wanted, "end 0 slow 114690")?;
+    add_line(&mut wanted, "done 4099")?;
     let (text, status) = printed(rt.alloc(), &["-", "replay"], script.as_slice(), &[], &[])?;
     assert_eq!(rt; text.as_slice(), wanted.as_slice());
     assert_eq!(rt; status, 0);

@@ -1,3 +1,4 @@
+use super::runs::{add_line, first_wrong_call};
 use mj_base::{MemorySink, MemorySource, Octets};
 use mj_prog::tool;
 use std::alloc::{AllocError, Global};
@@ -27,190 +28,141 @@ fn owned(alloc: Global, words: &[&str]) -> Result<Vec<String>, AllocError> {
     Ok(all)
 }
 
+const LINES: &str = "\
+- replay: : 0 done 0
+- replay: stop: 0 done 0
+- replay: stop|no line of a script: 0 done 0
+- replay: |: 0 done 0
+- replay: #: 0 done 0
+- replay: # open 64||#|: 0 done 0
+- replay: # a comment|||opne 0|: 2 fault line 4
+- replay: |#|close 0||x: 2 fault line 5
+- replay:    |: 2 fault line 1
+- replay:  # a comment|: 2 fault line 1
+- replay: stop |: 2 fault line 1
+- replay: open|: 2 fault line 1
+- replay: open 64|: 2 fault line 1
+- replay: open 00|: 2 fault line 1
+- replay: open  0|: 2 fault line 1
+- replay: open 0 |: 2 fault line 1
+- replay: open 0\r|: 2 fault line 1
+- replay: opne 0|: 2 fault line 1
+- replay: bytes 0 0|: 2 fault line 1
+- replay: bytes 0 |: 2 fault line 1
+- replay: bytes 0|: 2 fault line 1
+- replay: bytes 64 00|: 2 fault line 1
+- replay: bytes 0 0g|: 2 fault line 1
+- replay: bytes 63 aF|: 0 done 1
+- replay: sent 0|: 0 done 1
+- replay: sent 64|: 2 fault line 1
+- replay: close 0|: 0 done 1
+- replay: close 64|: 2 fault line 1
+- replay: close 63|sent 63|# both|: 0 done 2
+- replay: tick 5|stop|junk|: 0 done 1
+- replay: tick 0||tick 1000000000000000: 0 done 2
+- replay: tick 1000000000000001|: 2 fault line 1
+- replay: tick 05|: 2 fault line 1
+- replay: tick -5|: 2 fault line 1
+- replay: tick 99999999999999999999|: 2 fault line 1
+";
+
 #[test]
 fn lines_are_lawful_or_named_by_their_number(rt: HostRuntime) -> Result<(), Fail> {
-    let rows: [(&[u8], &[u8], u8); 35] = [
-        (b"", b"done 0\n", 0),
-        (b"stop", b"done 0\n", 0),
-        (b"stop\nno line of a script", b"done 0\n", 0),
-        (b"\n", b"done 0\n", 0),
-        (b"#", b"done 0\n", 0),
-        (b"# open 64\n\n#\n", b"done 0\n", 0),
-        (b"# a comment\n\n\nopne 0\n", b"fault line 4\n", 2),
-        (b"\n#\nclose 0\n\nx", b"fault line 5\n", 2),
-        (b"   \n", b"fault line 1\n", 2),
-        (b" # a comment\n", b"fault line 1\n", 2),
-        (b"stop \n", b"fault line 1\n", 2),
-        (b"open\n", b"fault line 1\n", 2),
-        (b"open 64\n", b"fault line 1\n", 2),
-        (b"open 00\n", b"fault line 1\n", 2),
-        (b"open  0\n", b"fault line 1\n", 2),
-        (b"open 0 \n", b"fault line 1\n", 2),
-        (b"open 0\r\n", b"fault line 1\n", 2),
-        (b"opne 0\n", b"fault line 1\n", 2),
-        (b"bytes 0 0\n", b"fault line 1\n", 2),
-        (b"bytes 0 \n", b"fault line 1\n", 2),
-        (b"bytes 0\n", b"fault line 1\n", 2),
-        (b"bytes 64 00\n", b"fault line 1\n", 2),
-        (b"bytes 0 0g\n", b"fault line 1\n", 2),
-        (b"bytes 63 aF\n", b"done 1\n", 0),
-        (b"sent 0\n", b"done 1\n", 0),
-        (b"sent 64\n", b"fault line 1\n", 2),
-        (b"close 0\n", b"done 1\n", 0),
-        (b"close 64\n", b"fault line 1\n", 2),
-        (b"close 63\nsent 63\n# both\n", b"done 2\n", 0),
-        (b"tick 5\nstop\njunk\n", b"done 1\n", 0),
-        (b"tick 0\n\ntick 1000000000000000", b"done 2\n", 0),
-        (b"tick 1000000000000001\n", b"fault line 1\n", 2),
-        (b"tick 05\n", b"fault line 1\n", 2),
-        (b"tick -5\n", b"fault line 1\n", 2),
-        (b"tick 99999999999999999999\n", b"fault line 1\n", 2),
-    ];
-    for row in rows.iter() {
-        let (text, status) = printed(rt.alloc(), &["-", "replay"], row.0, &[], &[])?;
-        assert_eq!(rt; text.as_slice(), row.1);
-        assert_eq!(rt; status, row.2);
-    }
+    assert_eq!(rt; first_wrong_call(rt.alloc(), LINES)?, None);
     Ok(())
 }
 
 #[test]
 fn a_line_has_at_most_131_081_bytes(rt: HostRuntime) -> Result<(), Fail> {
-    let rows: [(&[u8], u8, usize, &[u8], u8); 4] = [
-        (b"#", b'x', 131_081, b"done 0\n", 0),
-        (b"#", b'x', 131_082, b"fault line 1\n", 2),
-        (b"bytes 63 ", b'0', 131_081, b"done 1\n", 0),
-        (b"bytes 0 ", b'0', 131_082, b"fault line 1\n", 2),
-    ];
-    for row in rows.iter() {
-        let mut script = Vec::from_slice(rt.alloc(), row.0)?;
-        script.resize(row.2, row.1)?;
+    for (front, byte, size, wanted, wanted_status) in [
+        ("#", b'x', 131_081, "done 0\n", 0),
+        ("#", b'x', 131_082, "fault line 1\n", 2),
+        ("bytes 63 ", b'0', 131_081, "done 1\n", 0),
+        ("bytes 0 ", b'0', 131_082, "fault line 1\n", 2),
+    ] {
+        let mut script = Vec::from_slice(rt.alloc(), front.as_bytes())?;
+        script.resize(size, byte)?;
         script.push(b'\n')?;
         let (text, status) = printed(rt.alloc(), &["-", "replay"], script.as_slice(), &[], &[])?;
-        assert_eq!(rt; text.as_slice(), row.3);
-        assert_eq!(rt; status, row.4);
+        assert_eq!(rt; text.as_slice(), wanted.as_bytes());
+        assert_eq!(rt; status, wanted_status);
     }
     Ok(())
 }
 
-const SEED: &str = "000102030405060708090a0b0c0d0e0f101112131415161718191A1B1C1D1E1F";
+const OPTIONS: &str = "\
+- replay --lanes 1: close 1|: 2 fault line 1
+- replay --lanes 1: close 0|: 0 done 1
+- replay --lanes 2: close 1|: 0 done 1
+- replay --lanes 2: |open 2|: 2 fault line 2
+- replay --lanes 64: close 63|: 0 done 1
+- replay --seed SEED: close 63|: 0 done 1
+- replay --seed SEED --lanes 2: close 1|: 0 done 1
+- replay --lanes 2 --seed SEED: close 1|: 0 done 1
+- replay --lanes 2 --seed SEED: close 2|: 2 fault line 1
+";
 
 #[test]
 fn options_say_how_many_lanes_there_are(rt: HostRuntime) -> Result<(), Fail> {
-    let rows: [(&[&str], &[u8], &[u8], u8); 9] = [
-        (&["--lanes", "1"], b"close 1\n", b"fault line 1\n", 2),
-        (&["--lanes", "1"], b"close 0\n", b"done 1\n", 0),
-        (&["--lanes", "2"], b"close 1\n", b"done 1\n", 0),
-        (&["--lanes", "2"], b"\nopen 2\n", b"fault line 2\n", 2),
-        (&["--lanes", "64"], b"close 63\n", b"done 1\n", 0),
-        (&["--seed", SEED], b"close 63\n", b"done 1\n", 0),
-        (
-            &["--seed", SEED, "--lanes", "2"],
-            b"close 1\n",
-            b"done 1\n",
-            0,
-        ),
-        (
-            &["--lanes", "2", "--seed", SEED],
-            b"close 1\n",
-            b"done 1\n",
-            0,
-        ),
-        (
-            &["--lanes", "2", "--seed", SEED],
-            b"close 2\n",
-            b"fault line 1\n",
-            2,
-        ),
-    ];
-    for row in rows.iter() {
-        let mut words = Vec::from_slice(rt.alloc(), &["-", "replay"])?;
-        words.extend_from_slice(row.0)?;
-        let (text, status) = printed(rt.alloc(), words.as_slice(), row.1, &[], &[])?;
-        assert_eq!(rt; text.as_slice(), row.2);
-        assert_eq!(rt; status, row.3);
-    }
+    assert_eq!(rt; first_wrong_call(rt.alloc(), OPTIONS)?, None);
     Ok(())
 }
 
 #[test]
 fn lane_1_of_two_opens(rt: HostRuntime) -> Result<(), Fail> {
-    let (text, status) = printed(
-        rt.alloc(),
-        &["-", "replay", "--lanes", "2"],
-        b"open 1\n",
-        &[],
-        &[],
-    )?;
-    assert_eq!(rt;
-        text.as_slice(),
-        b"put 1 ff00000000000000007f03004e554c4c00000000000000000000000000000000\
-0000000000000000000000000000000000000000000000000000000000000000\ndone 1\n"
-            .as_slice()
-    );
+    let words = ["-", "replay", "--lanes", "2"];
+    let (text, status) = printed(rt.alloc(), &words, b"open 1\n", &[], &[])?;
+    let mut wanted = Vec::new(rt.alloc());
+    add_line(&mut wanted, "put 1 GREETING")?;
+    add_line(&mut wanted, "done 1")?;
+    assert_eq!(rt; text.as_slice(), wanted.as_slice());
     assert_eq!(rt; status, 0);
     Ok(())
 }
 
+const FAULTY_WORDS: &str = "\
+: stop|: 1 fault words
+-: stop|: 1 fault words
+- show: stop|: 1 fault words
+- replay x: stop|: 1 fault words
+- replay --: stop|: 1 fault words
+tickets replay: stop|: 1 fault words
+replay -: stop|: 1 fault words
+--lanes 2 - replay: stop|: 1 fault words
+- replay --lanes: stop|: 1 fault words
+- replay --lanes 0: stop|: 1 fault words
+- replay --lanes 65: stop|: 1 fault words
+- replay --lanes 02: stop|: 1 fault words
+- replay --lanes '': stop|: 1 fault words
+- replay --lanes=2: stop|: 1 fault words
+- replay --lanes 2 x: stop|: 1 fault words
+- replay --lanes 2 --lanes 3: stop|: 1 fault words
+- replay --lanes 2 --seed SEED --lanes 2: stop|: 1 fault words
+- replay --lane 2: stop|: 1 fault words
+- replay --seed: stop|: 1 fault words
+- replay --seed 00010203040506070809: stop|: 1 fault words
+- replay --seed 000102030405060708090a0b0c0d0e0f101112131415161718191a1b1c1d1e1: stop|: 1 fault words
+- replay --seed 000102030405060708090a0b0c0d0e0f101112131415161718191a1b1c1d1e1g: stop|: 1 fault words
+";
+
 #[test]
 fn other_words_are_faulty(rt: HostRuntime) -> Result<(), Fail> {
-    let rows: [&[&str]; 22] = [
-        &[],
-        &["-"],
-        &["-", "show"],
-        &["-", "replay", "x"],
-        &["-", "replay", "--"],
-        &["tickets", "replay"],
-        &["replay", "-"],
-        &["--lanes", "2", "-", "replay"],
-        &["-", "replay", "--lanes"],
-        &["-", "replay", "--lanes", "0"],
-        &["-", "replay", "--lanes", "65"],
-        &["-", "replay", "--lanes", "02"],
-        &["-", "replay", "--lanes", ""],
-        &["-", "replay", "--lanes=2"],
-        &["-", "replay", "--lanes", "2", "x"],
-        &["-", "replay", "--lanes", "2", "--lanes", "3"],
-        &[
-            "-", "replay", "--lanes", "2", "--seed", SEED, "--lanes", "2",
-        ],
-        &["-", "replay", "--lane", "2"],
-        &["-", "replay", "--seed"],
-        &["-", "replay", "--seed", "00010203040506070809"],
-        &[
-            "-",
-            "replay",
-            "--seed",
-            "000102030405060708090a0b0c0d0e0f101112131415161718191a1b1c1d1e1",
-        ],
-        &[
-            "-",
-            "replay",
-            "--seed",
-            "000102030405060708090a0b0c0d0e0f101112131415161718191a1b1c1d1e1g",
-        ],
-    ];
-    for words in rows.iter() {
-        let (text, status) = printed(rt.alloc(), words, b"stop\n", &[], &[])?;
-        assert_eq!(rt; text.as_slice(), b"fault words\n".as_slice());
-        assert_eq!(rt; status, 1);
-    }
+    assert_eq!(rt; first_wrong_call(rt.alloc(), FAULTY_WORDS)?, None);
     Ok(())
 }
 
 #[test]
 fn a_failing_read_or_write_ends_the_run(rt: HostRuntime) -> Result<(), Fail> {
-    let (text, status) = printed(rt.alloc(), &["-", "replay"], b"stop\n", &[0], &[])?;
-    assert_eq!(rt; text.as_slice(), b"fault read\n".as_slice());
-    assert_eq!(rt; status, 6);
-    let (text, status) = printed(rt.alloc(), &["-", "replay"], b"stop\n", &[], &[0])?;
-    assert_eq!(rt; text.as_slice(), b"".as_slice());
-    assert_eq!(rt; status, 7);
-    let (text, status) = printed(rt.alloc(), &["-", "replay"], b"stop\n", &[0], &[0])?;
-    assert_eq!(rt; text.as_slice(), b"".as_slice());
-    assert_eq!(rt; status, 6);
-    let (text, status) = printed(rt.alloc(), &["-", "replay"], b"x\n", &[], &[0])?;
-    assert_eq!(rt; text.as_slice(), b"".as_slice());
-    assert_eq!(rt; status, 2);
+    for (script, reads, writes, wanted, wanted_status) in [
+        ("stop\n", [0], [9], "fault read\n", 6),
+        ("stop\n", [9], [0], "", 7),
+        ("stop\n", [0], [0], "", 6),
+        ("x\n", [9], [0], "", 2),
+    ] {
+        let words = ["-", "replay"];
+        let (text, status) = printed(rt.alloc(), &words, script.as_bytes(), &reads, &writes)?;
+        assert_eq!(rt; text.as_slice(), wanted.as_bytes());
+        assert_eq!(rt; status, wanted_status);
+    }
     Ok(())
 }

@@ -10,7 +10,7 @@ pub enum Origin {
 }
 
 /// A request for a service. For a ticket `version` is One and `lead` true, and both mean nothing.
-#[derive(Debug, Drop)]
+#[derive(Drop)]
 pub struct Request {
     pub origin: Origin,
     pub service: Name,
@@ -21,7 +21,7 @@ pub struct Request {
 }
 
 /// Why a request wasn't queued. Either gives it back, and changes nothing.
-#[derive(Debug, Drop)]
+#[derive(Drop)]
 pub enum AskFault {
     /// Too many client requests are queued, or they weigh too much.
     QueueFull(Request),

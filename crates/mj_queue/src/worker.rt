@@ -1,7 +1,7 @@
 use mj_base::Name;
 
 /// A worker, by its connection's number, and the service that it offers.
-#[derive(Debug, Drop)]
+#[derive(Drop)]
 pub struct Waiter {
     pub worker: u64,
     pub service: Name,

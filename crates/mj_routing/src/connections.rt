@@ -22,7 +22,7 @@ pub struct Standing {
 }
 
 /// Whether a piece may be sent to a connection.
-#[derive(Clone, Copy, Debug, PartialEq, Eq)]
+#[derive(Clone, Copy)]
 pub enum Verdict {
     /// The connection isn't there.
     Nobody,

@@ -5,7 +5,7 @@ use mj_base::{Frames, Name};
 use mj_ids::TicketId;
 
 /// What happens to a ticket (ZeroMQ RFC 9). A list of these is what the ticket file keeps.
-#[derive(Debug, Drop)]
+#[derive(Drop)]
 pub enum TicketCmd {
     /// A request is kept, and its ticket is open and pending from now on. The id holds the ticket's number.
     Accept {

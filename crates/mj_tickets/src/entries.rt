@@ -12,7 +12,7 @@ use mj_base::{Name, NoMemory};
 use mj_ids::TicketId;
 
 /// A ticket. A closed one stays in the list until enough of them are there to be worth taking out.
-#[derive(Debug, Drop)]
+#[derive(Drop)]
 pub(crate) struct Entry {
     pub(crate) id: TicketId,
     pub(crate) service: Name,
@@ -20,7 +20,7 @@ pub(crate) struct Entry {
     pub(crate) standing: Standing,
 }
 
-#[derive(Clone, Copy, Debug, PartialEq, Eq)]
+#[derive(Clone, Copy)]
 pub(crate) enum Standing {
     Pending,
     Stored(Place),

@@ -21,7 +21,7 @@ use std::marker::Model;
 
 /// The open tickets that a list of commands leaves: of each its id, its service, and where its bodies stand in the
 /// ticket file. Tickets are found by search, and the closed ones are taken out when there are many.
-#[derive(Debug, Drop)]
+#[derive(Drop)]
 pub struct Tickets {
     entries: Vec<Entry>,
     highest: u64,

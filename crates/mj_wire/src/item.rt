@@ -2,7 +2,7 @@ use mj_base::{Frames, Reason};
 use mj_handshake::SocketType;
 
 /// What a stream says, in its order.
-#[derive(Debug, Drop)]
+#[derive(Drop)]
 pub enum WireItem {
     /// The greeting is whole and accepted.
     Accepted,

@@ -12,7 +12,7 @@ use mj_handshake::{SocketType, read_ready};
 const GREETING: usize = 64;
 
 /// What the bytes at a place begin with. Sizes are counted from the place.
-#[derive(Clone, Copy, Debug)]
+#[derive(Clone, Copy)]
 pub enum Next {
     /// Nothing whole, and nothing wrong so far.
     Wait,

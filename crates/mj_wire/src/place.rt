@@ -1,7 +1,7 @@
 use mj_base::Frames;
 
 /// What has to come next in the stream.
-#[derive(Clone, Copy, Debug, PartialEq, Eq)]
+#[derive(Clone, Copy)]
 pub enum Stage {
     Greeting,
     /// READY.
@@ -13,7 +13,7 @@ pub enum Stage {
 }
 
 /// A place in the stream, between two frames.
-#[derive(Debug, Drop)]
+#[derive(Drop)]
 pub struct Place {
     pub stage: Stage,
     /// The bytes before it, at most 2^64 - 1.

@@ -3,7 +3,7 @@ ghost use Rattle.std.specs.Prelude.{◌↔◌, IsTrue};
 use mj_base::{Frames, Name, Octets, Version};
 
 /// What a worker tells the broker.
-#[derive(Debug, Drop)]
+#[derive(Drop)]
 pub struct WorkerCmd {
     pub version: Version,
     /// Whether the empty frame stands first, as it always does in 0.1.
@@ -27,7 +27,7 @@ impl WorkerCmd {
 }
 
 /// The commands of a worker (ZeroMQ RFC 7, Majordomo/Worker).
-#[derive(Debug, Drop)]
+#[derive(Drop)]
 pub enum WorkerAct {
     /// It serves this service from now on.
     Ready(Name),
@@ -43,7 +43,7 @@ pub enum WorkerAct {
 }
 
 /// What the broker tells a worker.
-#[derive(Debug, Drop)]
+#[derive(Drop)]
 pub struct Order {
     pub version: Version,
     /// Whether the empty frame stands first, as it always does in 0.1.
@@ -66,7 +66,7 @@ impl Order {
 }
 
 /// The commands of the broker (ZeroMQ RFC 7, Majordomo/Worker).
-#[derive(Debug, Drop)]
+#[derive(Drop)]
 pub enum OrderAct {
     /// A request; the reply goes to this address.
     Request { address: Octets, body: Frames },
