@@ -1,0 +1,4 @@
+pub mod TextLemmas
+pub mod SweepLemmas
+pub mod ClientLemmas
+pub mod WorkerLemmas

@@ -1,0 +1,10 @@
+/// What follows on a quiet event.
+#[derive(Clone, Copy, Debug, PartialEq, Eq)]
+pub enum Verdict {
+    /// Nothing.
+    Stay,
+    /// The link is opened anew.
+    Again,
+    /// The last try has ended.
+    Lost,
+}

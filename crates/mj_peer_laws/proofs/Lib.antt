@@ -1,0 +1,3 @@
+mod WatchLemmas
+mod ClientSightLemmas
+mod WorkerSightLemmas

@@ -1,0 +1,4 @@
+pub mod Watching
+pub mod ClientSights
+pub mod ClientTries
+pub mod WorkerSights

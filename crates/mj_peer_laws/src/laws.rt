@@ -1,0 +1,17 @@
+ghost use Rattle.mj_peer_laws.specs.ClientSights;
+ghost use Rattle.mj_peer_laws.specs.WorkerSights;
+
+/// A request is written only on a link whose stream has the broker's READY, and beside it only how a link begins. What
+/// a client hands out came with a message of the link that was read last: a reply for its service in its version, while
+/// a request was open. A request gets one final reply at most.
+pub fn a_client_asks_on_ready_links_and_hands_out_its_replies()
+    ensures { ClientSights.RunsAreRight }
+{}
+
+/// A worker answers each REQUEST that it was given with that REQUEST's address and body, on the REQUEST's link, in
+/// order and once: its replies, and behind them the mark that it was served. Before anything else comes all were
+/// answered, unless the worker has left or given up. Beside replies it writes its own words alone: how a link begins,
+/// READY, HEARTBEAT and DISCONNECT.
+pub fn a_worker_answers_each_request_once()
+    ensures { WorkerSights.RunsAreRight }
+{}
