@@ -10,3 +10,9 @@ pub mod SettlingLemmas
 pub mod StepLemmas
 pub mod PieceLemmas
 pub mod StreamLemmas
+pub mod LookLemmas
+pub mod FoldLemmas
+pub mod Changes
+pub mod SendWalk
+pub mod StoreWalk
+pub mod Walk

@@ -7,6 +7,7 @@ pub mod Sending
 pub mod DiskActs
 pub mod Pairing
 pub mod TitanicStep
+pub mod TitanicAnswers
 pub mod MessageStep
 pub mod TickStep
 pub mod EventStep
