@@ -16,3 +16,6 @@ pub mod Changes
 pub mod SendWalk
 pub mod StoreWalk
 pub mod Walk
+pub mod StepWalk
+pub mod AbsentLemmas
+pub mod NextLemmas
