@@ -172,15 +172,20 @@ passed_at p w = on (shuts None w).0 (passed_over p w.routing)
 
 -- these commands are appended, each to a store that is open
 pub data IsMade (cmd : TicketCmd) (w : Whole) : Type 0 where
-  Accepting : (service : List ℕ) (body : List (List ℕ)) → cmd ≡ accepts_next service body w → is_full w.routing.limits w.store cmd ≡ false → IsMade cmd w
+  Accepting : (service : List ℕ) (body : List (List ℕ)) → cmd ≡ accepts_next service body w → w.store.stored ≡ true → is_full w.routing.limits w.store cmd ≡ false → IsMade cmd w
   Storing : (number : ℕ) (body : List (List ℕ)) → cmd ≡ cmds.Store number body → pends number (tickets_of w.store) ≡ true → IsMade cmd w
   Closing : (ticket : Ticket (List (List ℕ))) (id : List ℕ) → cmd ≡ cmds.Close ticket.number → known id (tickets_of w.store) ≡ Some ticket → IsMade cmd w
 
 -- what is in doubt when the store is shut: nothing, the command of a failed append, or what was in doubt before
 pub data IsDoubt (doubt : Option TicketCmd) (w : Whole) : Type 0 where
-  NoDoubt : doubt ≡ None → w.store.access ≡ usable → IsDoubt doubt w
+  NoDoubt : (ticket : Ticket (List (List ℕ))) (id : List ℕ) → doubt ≡ None → w.store.access ≡ usable → known id (tickets_of w.store) ≡ Some ticket → IsDoubt doubt w
   Tried : (cmd : TicketCmd) → doubt ≡ Some cmd → w.store.access ≡ usable → IsMade cmd w → IsDoubt doubt w
   Remains : w.store.access ≡ Shut doubt → IsDoubt doubt w
+
+-- what is read: the reply of a ticket, or a ticket that a pair hands over
+pub data IsRead (cause : Cause) (w : Whole) : Type 0 where
+  ReadsReply : (ticket : Ticket (List (List ℕ))) (id : List ℕ) → w.store.access ≡ usable → known id (tickets_of w.store) ≡ Some ticket → IsRead cause w
+  ReadsTicket : (p : Pair) (number : ℕ) → cause ≡ Paired p → pair w.routing.waiting w.routing.queue ≡ Some p → p.request.origin ≡ origins.Ticket number → IsRead cause w
 
 -- a worker holds this ticket
 abbrev pub IsHeldBy : ℕ → ℕ → State → Type 0
@@ -216,12 +221,12 @@ pub record IsCarried (cause : Cause) (w0 : Whole) (P : Doing Whole Out → Type 
       → P (on w (given_over p w.routing), o)
   pub opens : (lane : ℕ) (o : List Out) → cause ≡ Opening lane → P (w0, o) → P (on w0 (opened lane w0.routing), o)
   pub time : (ms : ℕ) (w : Whole) (o : List Out) → P (w, o) → P (on w (at_moment ms w.routing), o)
-  pub counts : (w : Whole) (o : List Out) → fails w ≡ false → P (w, o) → P (counted w, o)
+  pub counts : (w : Whole) (o : List Out) → IsRead cause w → fails w ≡ false → P (w, o) → P (counted w, o)
   pub shuts : (doubt : Option TicketCmd) (w : Whole) (o : List Out) → IsDoubt doubt w → fails w ≡ true → OnlyNotes o → P (w, o)
       → P ((shuts doubt w).0, o ++ Note (ShutNote w.acts) ∷ [])
   pub reopens : (doubt : Option TicketCmd) (w : Whole) (o : List Out) → w.store.access ≡ Shut doubt → fails w ≡ false → OnlyNotes o → P (w, o)
       → P ((reopens (found_in (finds w) doubt) w).0, o ++ (reopens (found_in (finds w) doubt) w).1)
-  pub accepts : (service : List ℕ) (body : List (List ℕ)) (w : Whole) (o : List Out) → w.store.access ≡ usable → is_full w.routing.limits w.store (accepts_next service body w) ≡ false
+  pub accepts : (service : List ℕ) (body : List (List ℕ)) (w : Whole) (o : List Out) → w.store.access ≡ usable → w.store.stored ≡ true → is_full w.routing.limits w.store (accepts_next service body w) ≡ false
       → fails w ≡ false → OnlyNotes o → P (w, o) → P (accepted_at service body w, o)
   pub stores : (n number : ℕ) (body : List (List ℕ)) (w : Whole) (o : List Out) → w.store.access ≡ usable → pends number (tickets_of w.store) ≡ true
       → IsHeldBy n number w.routing → fails w ≡ false → OnlyNotes o → P (w, o) → P (stored_at number body w, o)
@@ -272,10 +277,10 @@ kept-carried cause w0 P kept = record {
       (kept.keeps_given p is (subst (λ (s : State). pair s.waiting s.queue ≡ Some p) same found) (subst P same q));
   opens = λ lane o is p. kept.keeps_opened lane is p;
   time = λ ms w o p. kept.keeps_time ms w.routing p;
-  counts = λ w o works p. p;
+  counts = λ w o read works p. p;
   shuts = λ doubt w o is fault only p. kept.keeps_emptied w.routing p;
   reopens = λ doubt w o is works only p. kept.keeps_refilled (reopened (found_in (finds w) doubt) w.store) w.routing p;
-  accepts = λ service body w o usable room works only p. kept.keeps_submitted (next_number w) service w.routing p;
+  accepts = λ service body w o usable has room works only p. kept.keeps_submitted (next_number w) service w.routing p;
   stores = λ n number body w o usable pending holds works only p. p;
   closes = λ ticket id w o usable is works only p. kept.keeps_dropped ticket.number w.routing p;
   passes = λ p number is found origin fault q. kept.keeps_passed p is found q;

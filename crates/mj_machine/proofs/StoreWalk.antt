@@ -16,7 +16,7 @@ use Rattle.mj_tickets.specs.Fold.{Ticket, known}
 use Rattle.mj_machine.specs.declared.connection.Connection.{Connection}
 use Rattle.mj_machine.specs.declared.held.Held.{Held}
 use Rattle.mj_machine.specs.declared.said.Said.TheVariants.{Asks}
-use Rattle.mj_machine.specs.StoreState.{Access, IsShut, Open, Shut, pends, pends_while, tickets_of, told_by, usable}
+use Rattle.mj_machine.specs.StoreState.{Access, IsShut, Open, Shut, Store, pends, pends_while, tickets_of, told_by, usable}
 use Rattle.mj_machine.specs.MachineState.{Act, State, Whole}
 use Rattle.mj_machine.specs.Acts.{Doing, behind, quiet, ◌then◌}
 use Rattle.mj_machine.specs.Leaving.{comes_back, held_by}
@@ -26,7 +26,7 @@ use Rattle.mj_machine.specs.TitanicStep.{Fetches, Finishes, Submits, Titanic, ac
 use Rattle.mj_machine.specs.TitanicAnswers.{FetchAnswer, FinishAnswer, IsTitanicAnswer, ServiceAnswer, SubmitAnswer, reply_frames, shown_frames}
 use Rattle.mj_machine.specs.MessageStep.{as_client, request_of, said_in}
 use Rattle.mj_machine.specs.Steps.{Cause}
-use Rattle.mj_machine.proofs.Changes.{Accepting, Closing, IsCarried, IsDoubt, IsHeldBy, IsMade, NoDoubt, OnlyNotes, Remains, Says, Storing, Tells, Tried, Why, accepted_at, accepts_next, closed_at, stored_at}
+use Rattle.mj_machine.proofs.Changes.{Accepting, Closing, IsCarried, IsDoubt, IsHeldBy, IsMade, NoDoubt, OnlyNotes, ReadsReply, Remains, Says, Storing, Tells, Tried, Why, accepted_at, accepts_next, closed_at, stored_at}
 use Rattle.mj_machine.proofs.FoldLemmas.{pends-stored}
 use Rattle.mj_machine.proofs.ListLemmas.{all-append}
 use Rattle.mj_machine.proofs.SendWalk.{walk-sends}
@@ -94,7 +94,7 @@ module _ (cause : Cause) (w0 : Whole) (P : Doing Whole Out → Type 0) (carried 
   -- the store is opened first where it is shut
   walk-opening : (failed done : Act) (w : Whole) (o : List Out) → OnlyNotes o → P (w, o)
       → ((v : Whole) (q : List Out) → IsShut v.store.access → OnlyNotes q → P (v, q) → P (behind q (failed v)))
-      → ((v : Whole) (q : List Out) → v.store.access ≡ usable → v.routing.held ≡ w.routing.held → OnlyNotes q → P (v, q) → P (behind q (done v)))
+      → ((v : Whole) (q : List Out) → v.store.access ≡ usable → v.routing.held ≡ w.routing.held → v.store.stored ≡ w.store.stored → OnlyNotes q → P (v, q) → P (behind q (done v)))
       → P (behind o (opening failed done w))
   walk-opening failed done w o only p fault works = by w.store.access refl
     where
@@ -107,10 +107,10 @@ module _ (cause : Cause) (w0 : Whole) (P : Doing Whole Out → Type 0) (carried 
           let found = found_in (finds w) doubt in
           let v = (reopens found w).0 in
           let notes = (reopens found w).1 in
-          rejoined o notes (done v) (works v (o ++ notes) refl refl (only-more o _ only) (carried.reopens doubt w o shut is only p))
+          rejoined o notes (done v) (works v (o ++ notes) refl refl refl (only-more o _ only) (carried.reopens doubt w o shut is only p))
 
       by : (a : Access) → w.store.access ≡ a → P (behind o (opening_by a failed done w))
-      by Open ready = works w o ready refl only p
+      by Open ready = works w o ready refl refl only p
       by (Shut doubt) shut = again (fails w) doubt refl shut
 
   -- ---- a ticket's final reply
@@ -126,7 +126,7 @@ module _ (cause : Cause) (w0 : Whole) (P : Doing Whole Out → Type 0) (carried 
   pub walk-stores : (n number : ℕ) (body : List (List ℕ)) (w : Whole) (o : List Out) → IsHeldBy n number w.routing → OnlyNotes o → P (w, o) → P (behind o (stores number body w))
   walk-stores n number body w o holds only p =
       walk-opening quiet (λ v. stores_by (pends number (tickets_of v.store)) number body v) w o only p (λ v q shut notes r. walk-quiet v q r)
-      (λ v q ready same notes r. walk-stores_by (pends number (tickets_of v.store)) n number body v q refl ready (holds.0, ap (held_by n) same ∙ holds.1, holds.2) notes r)
+      (λ v q ready same has notes r. walk-stores_by (pends number (tickets_of v.store)) n number body v q refl ready (holds.0, ap (held_by n) same ∙ holds.1, holds.2) notes r)
 
   -- ---- a client's request to one of the services
 
@@ -156,6 +156,14 @@ module _ (cause : Cause) (w0 : Whole) (P : Doing Whole Out → Type 0) (carried 
         }))
         p
 
+    -- so there is a store
+    stored : w0.store.stored ≡ true
+    stored = by w0.store.stored reserved
+      where
+        by : (b : Bool) → is_reserved b cmd.service ≡ true → b ≡ true
+        by true is = refl
+        by false is = absurd (cc (is, free))
+
     -- ---- titanic.request
 
     -- what is read of the body, where the first is asked for
@@ -166,9 +174,9 @@ module _ (cause : Cause) (w0 : Whole) (P : Doing Whole Out → Type 0) (carried 
         → ServiceAnswer w.routing.limits (Some Submits) cmd.body w.store frames
     says-submit asked read w frames says = subst (λ (x : Option (List ℕ × List (List ℕ))). SubmitAnswer w.routing.limits x w.store frames) (sym read) says
 
-    walk-accepts : (asked : List ℕ × List (List ℕ)) → Is (Some Submits) → Reads (Some asked) → (v : Whole) (q : List Out) → v.store.access ≡ usable → OnlyNotes q → P (v, q)
+    walk-accepts : (asked : List ℕ × List (List ℕ)) → Is (Some Submits) → Reads (Some asked) → (v : Whole) (q : List Out) → v.store.access ≡ usable → v.store.stored ≡ true → OnlyNotes q → P (v, q)
         → P (behind q (accepts n Asked asked v))
-    walk-accepts asked is read v q ready only p = by (is_full v.routing.limits v.store (accepts_next asked.0 asked.1 v)) refl
+    walk-accepts asked is read v q ready has only p = by (is_full v.routing.limits v.store (accepts_next asked.0 asked.1 v)) refl
       where
         next : ℕ
         next = (tickets_of v.store).next
@@ -179,20 +187,20 @@ module _ (cause : Cause) (w0 : Whole) (P : Doing Whole Out → Type 0) (carried 
         by false room =
             walk-attempted (Some (accepts_next asked.0 asked.1 v)) (fails_to n Asked)
             (λ u. routes (accepted (tickets_of v.store).next (id_of v.store.seed (tickets_of v.store).next) asked.0 n Asked) (appended (accepts_next asked.0 asked.1 v) u)) v q
-            (Tried (accepts_next asked.0 asked.1 v) refl ready (Accepting asked.0 asked.1 refl room)) only p
+            (Tried (accepts_next asked.0 asked.1 v) refl ready (Accepting asked.0 asked.1 refl has room)) only p
             (λ u r shut notes s. walk-tells (Some Submits) is _ u r (says-submit asked read u _ (inl (shut, refl))) s)
             (λ works.
               walk-tells (Some Submits) is (codes "200" ∷ text_of (id_of v.store.seed (tickets_of v.store).next) ∷ []) (accepted_at asked.0 asked.1 v) q
               (says-submit asked read (accepted_at asked.0 asked.1 v) _ (inr (inr (v.store.commands, refl, refl))))
-              (carried.accepts asked.0 asked.1 v q ready room works only p))
+              (carried.accepts asked.0 asked.1 v q ready has room works only p))
 
-    walk-submits : (asked : Option (List ℕ × List (List ℕ))) → Is (Some Submits) → Reads asked → (w : Whole) → P (quiet w) → P (submits n Asked asked w)
-    walk-submits None is read w p =
+    walk-submits : (asked : Option (List ℕ × List (List ℕ))) → Is (Some Submits) → Reads asked → (w : Whole) → w.store ≡ w0.store → P (quiet w) → P (submits n Asked asked w)
+    walk-submits None is read w same p =
         walk-tells (Some Submits) is _ w [] (subst (λ (x : Option (List ℕ × List (List ℕ))). SubmitAnswer w.routing.limits x w.store (codes "400" ∷ [])) (sym read) refl) p
-    walk-submits (Some asked) is read w p =
+    walk-submits (Some asked) is read w same p =
         walk-opening (fails_to n Asked) (accepts n Asked asked) w [] tt p
         (λ v q shut notes r. walk-tells (Some Submits) is _ v q (says-submit asked read v _ (inl (shut, refl))) r)
-        (λ v q ready same notes r. walk-accepts asked is read v q ready notes r)
+        (λ v q ready holds has notes r. walk-accepts asked is read v q ready (has ∙ ap (λ (x : Store). x.stored) same ∙ stored) notes r)
 
     -- ---- titanic.reply
 
@@ -208,9 +216,9 @@ module _ (cause : Cause) (w0 : Whole) (P : Doing Whole Out → Type 0) (carried 
     walk-shows_reply id ticket None is read has v q found ready only p =
         walk-tells (Some Fetches) is _ v q (says-fetch id read v _ (inr (ready, sym (ap shown_frames found ∙ ap reply_frames has)))) p
     walk-shows_reply id ticket (Some frames) is read has v q found ready only p =
-        walk-attempted None (fails_to n Asked) (routes (answers n Asked (codes "200" ∷ frames))) v q (NoDoubt refl ready) only p
+        walk-attempted None (fails_to n Asked) (routes (answers n Asked (codes "200" ∷ frames))) v q (NoDoubt ticket id refl ready found) only p
         (λ u r shut notes s. walk-tells (Some Fetches) is _ u r (says-fetch id read u _ (inl (shut, refl))) s)
-        (λ works. walk-tells (Some Fetches) is _ (counted v) q (says-fetch id read (counted v) _ (inr (ready, sym (ap shown_frames found ∙ ap reply_frames has)))) (carried.counts v q works p))
+        (λ works. walk-tells (Some Fetches) is _ (counted v) q (says-fetch id read (counted v) _ (inr (ready, sym (ap shown_frames found ∙ ap reply_frames has)))) (carried.counts v q (ReadsReply ticket id ready found) works p))
 
     walk-shows : (id : List ℕ) (found : Option (Ticket (List (List ℕ)))) → Is (Some Fetches) → Names (Some id) → (v : Whole) (q : List Out) → known id (tickets_of v.store) ≡ found
         → v.store.access ≡ usable → OnlyNotes q → P (v, q) → P (behind q (shows n Asked found v))
@@ -223,7 +231,7 @@ module _ (cause : Cause) (w0 : Whole) (P : Doing Whole Out → Type 0) (carried 
     walk-fetches (Some id) is read w p =
         walk-opening (fails_to n Asked) (λ v. shows n Asked (known id (tickets_of v.store)) v) w [] tt p
         (λ v q shut notes r. walk-tells (Some Fetches) is _ v q (says-fetch id read v _ (inl (shut, refl))) r)
-        (λ v q ready same notes r. walk-shows id (known id (tickets_of v.store)) is read v q refl ready notes r)
+        (λ v q ready same has notes r. walk-shows id (known id (tickets_of v.store)) is read v q refl ready notes r)
 
     -- ---- titanic.close
 
@@ -249,10 +257,10 @@ module _ (cause : Cause) (w0 : Whole) (P : Doing Whole Out → Type 0) (carried 
     walk-finishes (Some id) is read w p =
         walk-opening (fails_to n Asked) (λ v. closes_ticket n Asked (known id (tickets_of v.store)) v) w [] tt p
         (λ v q shut notes r. walk-tells (Some Finishes) is _ v q (says-finish id read v _ (inl (shut, refl))) r)
-        (λ v q ready same notes r. walk-closes_ticket id (known id (tickets_of v.store)) is read v q refl ready notes r)
+        (λ v q ready same has notes r. walk-closes_ticket id (known id (tickets_of v.store)) is read v q refl ready notes r)
 
-    pub walk-serves : (t : Option Titanic) → Is t → (w : Whole) → P (quiet w) → P (serves t n Asked w)
-    walk-serves None is w p = walk-tells None is _ w [] refl p
-    walk-serves (Some Submits) is w p = walk-submits (read_submit cmd.body) is refl w p
-    walk-serves (Some Fetches) is w p = walk-fetches (read_ticket cmd.body) is refl w p
-    walk-serves (Some Finishes) is w p = walk-finishes (read_ticket cmd.body) is refl w p
+    pub walk-serves : (t : Option Titanic) → Is t → (w : Whole) → w.store ≡ w0.store → P (quiet w) → P (serves t n Asked w)
+    walk-serves None is w same p = walk-tells None is _ w [] refl p
+    walk-serves (Some Submits) is w same p = walk-submits (read_submit cmd.body) is refl w same p
+    walk-serves (Some Fetches) is w same p = walk-fetches (read_ticket cmd.body) is refl w p
+    walk-serves (Some Finishes) is w same p = walk-finishes (read_ticket cmd.body) is refl w p

@@ -41,7 +41,7 @@ use Rattle.mj_machine.specs.MessageStep.{answers_itself, as_client, asks, asks_b
 use Rattle.mj_machine.specs.TitanicStep.{titanic_of}
 use Rattle.mj_machine.specs.EventStep.{closes, closes_on, ends_at, ends_by, opened, reports, reports_on}
 use Rattle.mj_machine.specs.Steps.{Beat, Cause, Closing, Expiry, IsAllowed, Item, Opening, Paired, Report, Time, acts, item_act}
-use Rattle.mj_machine.proofs.Changes.{Answers, Beats, Delivers, Finishes, Greets, Hands, HoldsNoPending, IsCarried, IsKept, IsNoServer, IsReplyOf, Refuses, Says, Shakes, Why, given_over, kept-carried, on, registered}
+use Rattle.mj_machine.proofs.Changes.{Answers, Beats, Delivers, Finishes, Greets, Hands, HoldsNoPending, IsCarried, IsKept, IsNoServer, IsReplyOf, ReadsTicket, Refuses, Says, Shakes, Why, given_over, kept-carried, on, registered}
 use Rattle.mj_machine.proofs.LookLemmas.{delivers-held, delivers-service, heard-client, heard-service, look-changed}
 use Rattle.mj_machine.proofs.StoreWalk.{StoresEnd, stores-end, walk-serves, walk-stores}
 use Rattle.mj_machine.proofs.SendWalk.{walk-sends}
@@ -77,7 +77,7 @@ module _ (cause : Cause) (w0 : Whole) (P : Doing Whole Out → Type 0) (carried 
         by true b own also =
             walk-sends cause w0 P carried n _ (as_client n w0) []
             (Answers (record { message = message; cause_is = told; cmd = cmd; said_is = reads; reserved = own; text = refl })) asking
-        by false true own also = walk-serves cause w0 P carried n message told cmd reads own also (titanic_of cmd.service) refl (as_client n w0) asking
+        by false true own also = walk-serves cause w0 P carried n message told cmd reads own also (titanic_of cmd.service) refl (as_client n w0) refl asking
         by false false own also = walk-queues lane (request_of n cmd) refl p asking
 
     walk-begins : (voice : Voice) (a : WorkerAct) → c.role ≡ Fresh → P (quiet w0) → P (routes (begins n voice a) w0)
@@ -231,7 +231,7 @@ module _ (cause : Cause) (w0 : Whole) (P : Doing Whole Out → Type 0) (carried 
     where
       by : (b : Bool) → fails w0 ≡ b → P (attempted b None (routes (passes q)) (routes (hands (body_from (origins.Ticket n) q.request w0.store) q)) w0)
       by true fault = carried.passes q n is allowed origin fault p
-      by false works = walk-hands q (counted w0) _ is allowed (ap (λ (o : Origin). body_from o q.request w0.store) (sym origin)) refl (carried.counts w0 [] works p)
+      by false works = walk-hands q (counted w0) _ is allowed (ap (λ (o : Origin). body_from o q.request w0.store) (sym origin)) refl (carried.counts w0 [] (ReadsTicket q n is allowed origin) works p)
 
   -- ---- all acts
 
