@@ -4,7 +4,8 @@ use Rattle.std.specs.Option.{option_map}
 use Rattle.std.proofs.lemmas.Bool.Decides.{eqb_tells}
 use Rattle.mj_machine.specs.declared.connection.Connection.{Connection}
 use Rattle.mj_machine.specs.declared.connection.Role.TheVariants.{Client, Fresh, Gone, Worker}
-use Rattle.mj_machine.specs.MachineState.{State}
+use Rattle.mj_machine.specs.StoreState.{Told, told_by}
+use Rattle.mj_machine.specs.MachineState.{State, Whole}
 use Rattle.mj_machine.specs.Connections.{changed, connection_of, number_on, with_role}
 use Rattle.mj_machine.specs.Leaving.{connections_without}
 use Rattle.mj_machine.specs.MessageStep.{registration}
@@ -14,7 +15,7 @@ use Rattle.mj_machine.specs.EventStep.{Closes, Gains, Happening, Opens, Reports,
 use Rattle.mj_machine.specs.Steps.{Cause}
 use Rattle.mj_machine.proofs.ConnectionLemmas.{Keeps, changed-other, changed-same, cut_off-other, cut_off-same, differs}
 use Rattle.mj_machine.proofs.StepWalk.{MayBegin, kept-happens}
-use Rattle.mj_machine.proofs.Walk.{IsKept}
+use Rattle.mj_machine.proofs.Changes.{IsKept}
 
 abbrev pub IsNoOpening : Happening → Type 0
 IsNoOpening (Opens lane) = ⊥
@@ -60,28 +61,33 @@ absent-kept n cause s0 free = record {
   keeps_marked = λ q s p. absent-changed n q (mark_set s.now) (λ c. refl) s.connections p;
   keeps_sent = λ q octets c s is slow p. absent-changed n q (sent s.now octets) (λ d. refl) s.connections p;
   keeps_reported = λ q s p. absent-changed n q delivered (λ c. refl) s.connections p;
-  keeps_removed = λ q s p. absent-cut n q s.connections p;
-  keeps_gone = λ q s p. absent-changed n q (with_role Gone) (λ c. refl) s.connections p;
-  keeps_expired = λ q s is p. absent-changed n q (with_role Fresh) (λ c. refl) s.connections p;
+  keeps_removed = λ q told s p. absent-cut n q s.connections p;
+  keeps_gone = λ q told s p. absent-changed n q (with_role Gone) (λ c. refl) s.connections p;
+  keeps_expired = λ q told s is p. absent-changed n q (with_role Fresh) (λ c. refl) s.connections p;
   keeps_asking = λ q c is plain p. absent-changed n q (with_role Client) (λ d. refl) s0.connections p;
   keeps_queued = λ q c message request told is origin p. p;
   keeps_registered = λ q c message voice service told is fresh p.
       absent-changed n q (with_role (Worker (registration voice service s0))) (λ d. refl) s0.connections p;
   keeps_rested = λ q service s final serves p. p;
   keeps_given = λ q is found p. p;
+  keeps_passed = λ q is found p. p;
   keeps_opened = λ lane is p. absent-added n s0.connections _ (free lane is) p;
   keeps_time = λ ms s p. p;
+  keeps_emptied = λ s p. p;
+  keeps_refilled = λ store s p. p;
+  keeps_submitted = λ number service s p. p;
+  keeps_dropped = λ number s p. p;
 }
 
-pub closes-next : (o : Option ℕ) (s : State) → (closes o s).next ≡ s.next
-closes-next None s = refl
-closes-next (Some q) s = refl
+pub closes-next : (o : Option ℕ) (told : Told) (s : State) → (closes o told s).next ≡ s.next
+closes-next None told s = refl
+closes-next (Some q) told s = refl
 
 -- who isn't there after anything but an opening
-pub absent-happens : (h : Happening) → IsNoOpening h → (s : State) (n : ℕ) → connection_of n s.connections ≡ None → connection_of n (happens h s).0.connections ≡ None
-absent-happens h quietly s n none = kept-happens (Another n) (Absent n) (absent-kept n) h s (λ lane is. absurd (subst IsNoOpening is quietly)) none
+pub absent-happens : (h : Happening) → IsNoOpening h → (w : Whole) (n : ℕ) → connection_of n w.routing.connections ≡ None → connection_of n (happens h w).0.routing.connections ≡ None
+absent-happens h quietly w n none = kept-happens (Another n) (Absent n) (absent-kept n) h w (λ lane is. absurd (subst IsNoOpening is quietly)) none
 
 -- who isn't there after an opening
-pub absent-opens : (lane : ℕ) (s : State) (n : ℕ) → n ≢ s.next → connection_of n s.connections ≡ None → connection_of n (happens (Opens lane) s).0.connections ≡ None
-absent-opens lane s n apart none =
-    kept-happens (Another n) (Absent n) (absent-kept n) (Opens lane) s (λ other is same. apart (same ∙ closes-next (number_on other s.connections) s)) none
+pub absent-opens : (lane : ℕ) (w : Whole) (n : ℕ) → n ≢ w.routing.next → connection_of n w.routing.connections ≡ None → connection_of n (happens (Opens lane) w).0.routing.connections ≡ None
+absent-opens lane w n apart none =
+    kept-happens (Another n) (Absent n) (absent-kept n) (Opens lane) w (λ other is same. apart (same ∙ closes-next (number_on other w.routing.connections) (told_by w.store) w.routing)) none

@@ -3,18 +3,19 @@ use Rattle.std.proofs.Common.{◌≡◌, ◌≢◌, ◌==◌, ◌&&◌, ◌||◌
 use Rattle.std.specs.Option.{option_map}
 use Rattle.std.proofs.lemmas.Bool.Decides.{eqb_tells}
 use Rattle.mj_base.specs.declared.event.Out.{Out}
-use Rattle.mj_queue.specs.declared.request.Origin.{Origin}
-use Rattle.mj_queue.specs.declared.request.Origin.TheVariants as origins
 use Rattle.mj_queue.specs.declared.request.Request.{Request}
 use Rattle.mj_machine.specs.declared.connection.Connection.{Connection}
 use Rattle.mj_machine.specs.declared.connection.Role.{Role}
+use Rattle.mj_machine.specs.declared.held.Held.{Held}
+use Rattle.mj_machine.specs.Leaving.{held_by}
 use Rattle.mj_machine.specs.declared.connection.Role.TheVariants.{Fresh, Client, Worker, Gone}
-use Rattle.mj_machine.specs.MachineState.{State}
+use Rattle.mj_machine.specs.StoreState.{Told}
+use Rattle.mj_machine.specs.MachineState.{Done, State}
 use Rattle.mj_machine.specs.Connections.{changed, connection_of, heard, is_asking, is_client_role, service_in, service_of, spoken_to, with_role}
-use Rattle.mj_machine.specs.Acts.{Done, quiet}
+use Rattle.mj_machine.specs.Acts.{quiet}
 use Rattle.mj_machine.specs.Sending.{is_slow, reply_text, sends, sends_if, sends_to, sent}
-use Rattle.mj_machine.specs.MessageStep.{delivers_to, is_two}
-use Rattle.mj_machine.proofs.ConnectionLemmas.{Keeps, changed-other, changed-same, cut_off-other}
+use Rattle.mj_machine.specs.MessageStep.{delivers_back, is_two}
+use Rattle.mj_machine.proofs.ConnectionLemmas.{Keeps, changed-other, changed-same, cut_off-other, find-without-other}
 
 -- what one sees of the connection at a number stays where the change doesn't touch it
 pub look-changed : {A : Type 0} (see : Option Connection → A) (n q : ℕ) (f : Connection → Connection) → Keeps f
@@ -70,31 +71,52 @@ no-asker (Some c) service serves asks = by c.role serves asks
 
 -- ---- sending to somebody else
 
-sends_if-other : (b : Bool) (n q : ℕ) (piece : List ℕ) (c : Connection) (s : State) → n ≢ q → connection_of n (sends_if b q piece c s).0.connections ≡ connection_of n s.connections
-sends_if-other true n q piece c s apart = cut_off-other q n apart s.connections
-sends_if-other false n q piece c s apart = changed-other q n (sent s.now (length piece)) (λ d. refl) apart s.connections
+sends_if-other : (b : Bool) (n q : ℕ) (piece : List ℕ) (c : Connection) (told : Told) (s : State) → n ≢ q → connection_of n (sends_if b q piece c told s).0.connections ≡ connection_of n s.connections
+sends_if-other true n q piece c told s apart = cut_off-other q n apart s.connections
+sends_if-other false n q piece c told s apart = changed-other q n (sent s.now (length piece)) (λ d. refl) apart s.connections
 
-sends_to-other : (n q : ℕ) (piece : List ℕ) (o : Option Connection) (s : State) → n ≢ q → connection_of n (sends_to q piece o s).0.connections ≡ connection_of n s.connections
-sends_to-other n q piece None s apart = refl
-sends_to-other n q piece (Some c) s apart = sends_if-other (is_slow s.limits c (length piece)) n q piece c s apart
+sends_to-other : (n q : ℕ) (piece : List ℕ) (o : Option Connection) (told : Told) (s : State) → n ≢ q → connection_of n (sends_to q piece o told s).0.connections ≡ connection_of n s.connections
+sends_to-other n q piece None told s apart = refl
+sends_to-other n q piece (Some c) told s apart = sends_if-other (is_slow s.limits c (length piece)) n q piece c told s apart
 
-pub sends-other : (n q : ℕ) (piece : List ℕ) (s : State) → n ≢ q → connection_of n (sends q piece s).0.connections ≡ connection_of n s.connections
-sends-other n q piece s apart = sends_to-other n q piece (connection_of q s.connections) s apart
+pub sends-other : (n q : ℕ) (piece : List ℕ) (told : Told) (s : State) → n ≢ q → connection_of n (sends q piece told s).0.connections ≡ connection_of n s.connections
+sends-other n q piece told s apart = sends_to-other n q piece (connection_of q s.connections) told s apart
 
--- a worker stays one while a reply of its own is delivered
-pub delivers-service : (n : ℕ) (origin : Origin) (last : Bool) (request : Request) (body : List (List ℕ)) (s : State) (service : List ℕ)
-    → service_of (connection_of n s.connections) ≡ Some service → service_of (connection_of n (delivers_to origin last request body s).0.connections) ≡ Some service
-delivers-service n (origins.Ticket q) last request body s service serves = serves
-delivers-service n (origins.Client q) last request body s service serves = by (is_asking (connection_of q s.connections)) (last || is_two request.version) refl
-  where
-    apart : is_asking (connection_of q s.connections) ≡ true → n ≢ q
-    apart asks same = no-asker (connection_of n s.connections) service serves (ap (λ (x : ℕ). is_asking (connection_of x s.connections)) same ∙ asks)
+-- what another holds stays so
+sends_if-held : (b : Bool) (n q : ℕ) (piece : List ℕ) (c : Connection) (told : Told) (s : State) → n ≢ q → held_by n (sends_if b q piece c told s).0.held ≡ held_by n s.held
+sends_if-held true n q piece c told s apart = ap (λ (o : Option Held). option_map (λ h. h.request) o) (find-without-other (λ h. h.worker) q n apart s.held)
+sends_if-held false n q piece c told s apart = refl
 
-    by : (b c : Bool) → is_asking (connection_of q s.connections) ≡ b
-        → service_of (connection_of n (cond {A = Done Out} (b && c) (sends q (reply_text last request body) s) (quiet s)).0.connections) ≡ Some service
-    by true true asks = ap service_of (sends-other n q (reply_text last request body) s (apart asks)) ∙ serves
-    by true false asks = serves
-    by false c asks = serves
+sends_to-held : (n q : ℕ) (piece : List ℕ) (o : Option Connection) (told : Told) (s : State) → n ≢ q → held_by n (sends_to q piece o told s).0.held ≡ held_by n s.held
+sends_to-held n q piece None told s apart = refl
+sends_to-held n q piece (Some c) told s apart = sends_if-held (is_slow s.limits c (length piece)) n q piece c told s apart
+
+module _ (n q : ℕ) (last : Bool) (request : Request) (body : List (List ℕ)) (told : Told) (s : State) where
+  -- a worker is no asker
+  apart-asker : (service : List ℕ) → service_of (connection_of n s.connections) ≡ Some service → is_asking (connection_of q s.connections) ≡ true → n ≢ q
+  apart-asker service serves asks same = no-asker (connection_of n s.connections) service serves (ap (λ (x : ℕ). is_asking (connection_of x s.connections)) same ∙ asks)
+
+  -- and stays a worker while a reply of its own is delivered
+  pub delivers-service : (service : List ℕ) → service_of (connection_of n s.connections) ≡ Some service
+      → service_of (connection_of n (delivers_back q last request body told s).0.connections) ≡ Some service
+  delivers-service service serves = by (is_asking (connection_of q s.connections)) (last || is_two request.version) refl
+    where
+      by : (b c : Bool) → is_asking (connection_of q s.connections) ≡ b
+          → service_of (connection_of n (cond {A = Done Out} (b && c) (sends q (reply_text last request body) told s) (quiet s)).0.connections) ≡ Some service
+      by true true asks = ap service_of (sends-other n q (reply_text last request body) told s (apart-asker service serves asks)) ∙ serves
+      by true false asks = serves
+      by false c asks = serves
+
+  -- with what it holds
+  pub delivers-held : (service : List ℕ) → service_of (connection_of n s.connections) ≡ Some service
+      → held_by n (delivers_back q last request body told s).0.held ≡ held_by n s.held
+  delivers-held service serves = by (is_asking (connection_of q s.connections)) (last || is_two request.version) refl
+    where
+      by : (b c : Bool) → is_asking (connection_of q s.connections) ≡ b
+          → held_by n (cond {A = Done Out} (b && c) (sends q (reply_text last request body) told s) (quiet s)).0.held ≡ held_by n s.held
+      by true true asks = sends_to-held n q (reply_text last request body) (connection_of q s.connections) told s (apart-asker service serves asks)
+      by true false asks = refl
+      by false c asks = refl
 
 -- ---- other changes
 

@@ -5,7 +5,7 @@ use Rattle.mj_base.specs.declared.limits.Limits.{Limits}
 use Rattle.mj_wire.specs.declared.item.WireItem.{WireItem}
 use Rattle.mj_wire.specs.StreamItems.{gained, stream_items}
 use Rattle.mj_wire.proofs.PieceLemmas.{stream_items-append}
-use Rattle.mj_machine.specs.MachineState.{State}
+use Rattle.mj_machine.specs.MachineState.{Whole}
 use Rattle.mj_machine.specs.Acts.{◌then◌}
 use Rattle.mj_machine.specs.EventStep.{gains, item_step}
 use Rattle.mj_machine.proofs.RunLemmas.{each-append}
@@ -22,7 +22,7 @@ pieces-gain limits stream first second =
     ∙ append_assoc (stream_items limits stream) one two in
     ap (λ (xs : List WireItem). drop (length (stream_items limits stream)) xs) whole ∙ drop-append_seam (stream_items limits stream) (one ++ two)
 
-pub gains-in-turn : (number : Option ℕ) (first second : List WireItem) (s : State)
-    → gains number (first ++ second) s ≡ (gains number first s then gains number second)
-gains-in-turn None first second s = refl
-gains-in-turn (Some n) first second s = each-append (item_step n) first second s
+pub gains-in-turn : (number : Option ℕ) (first second : List WireItem) (w : Whole)
+    → gains number (first ++ second) w ≡ (gains number first w then gains number second)
+gains-in-turn None first second w = refl
+gains-in-turn (Some n) first second w = each-append (item_step n) first second w

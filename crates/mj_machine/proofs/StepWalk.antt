@@ -1,23 +1,25 @@
 -- What every act keeps holds around each step of a run, and what settling brings back where a message breaks it.
 use Rattle.std.proofs.Common.{◌≡◌, ℕ, zero, suc, List, [], ◌∷◌, length, Option, None, Some, refl, sym, subst}
 use Rattle.std.specs.List.{AllByRecursion}
-use Rattle.mj_base.specs.declared.event.Event.{Event}
 use Rattle.mj_base.specs.declared.limits.Limits.{Limits}
 use Rattle.mj_wire.specs.declared.item.WireItem.{WireItem}
 use Rattle.mj_wire.specs.declared.item.WireItem.TheVariants as items
 use Rattle.mj_queue.specs.Settling.{Pair, pair}
-use Rattle.mj_machine.specs.MachineState.{Machine, State}
+use Rattle.mj_machine.specs.StoreState.{Store, Told, told_by}
+use Rattle.mj_machine.specs.MachineState.{Machine, State, Whole, entered}
 use Rattle.mj_machine.specs.Connections.{number_on}
-use Rattle.mj_machine.specs.Acts.{Done, each, quiet, ◌then◌}
+use Rattle.mj_machine.specs.Acts.{Doing, each, quiet, ◌then◌}
+use Rattle.mj_machine.specs.DiskActs.{routes}
 use Rattle.mj_machine.specs.Pairing.{settles}
 use Rattle.mj_machine.specs.TickStep.{due_numbers, silent_numbers}
-use Rattle.mj_machine.specs.EventStep.{Closes, Gains, Happening, Opens, Reports, Stops, Ticks, closes, effect, happening, happens, state_after}
+use Rattle.mj_machine.specs.EventStep.{Closes, Gains, Happening, Noted, Opens, Reports, Stops, Ticks, closes, effect, happening, happens, state_after}
 use Rattle.mj_machine.specs.MachineRun.{run_state}
 use Rattle.mj_machine.specs.Steps.{Beat, Cause, Closing, Expiry, IsAllowed, Item, Opening, Paired, Report, Step, Time, acts, beat_step, beat_steps, effect_steps, event_steps, expiry_step, gain_steps, happening_steps, item_steps, lease_steps, pair_step, run_steps, settle_steps, step, step_of, turn_steps}
 use Rattle.mj_machine.proofs.ListLemmas.{all-append}
 use Rattle.mj_machine.proofs.SettlingLemmas.{settles-end}
 use Rattle.mj_machine.proofs.StepLemmas.{reads-effect, reads-happens, reads-settles}
-use Rattle.mj_machine.proofs.Walk.{IsKept, kept-acts}
+use Rattle.mj_machine.proofs.Changes.{IsCarried, IsKept, kept-carried}
+use Rattle.mj_machine.proofs.Walk.{walk-acts}
 
 -- no message, no opening, no lease's end, no pair
 abbrev pub IsPlain : Cause → Type 0
@@ -45,109 +47,125 @@ plain-allowed (Paired p) s plain = absurd plain
 
 -- P holds between the steps, or Q behind a message until all is settled, and Around of each step. Free is what an opening
 -- asks for
-pub record IsWalked (Free : State → ℕ → Type 0) (P Q : State → Type 0) (Around : Step → Type 0) : Type 0 where
-  pub plain : (cause : Cause) (s : State) → IsPlain cause → P s → Around (step_of cause s) × P (acts cause s).0
-  pub opens : (lane : ℕ) (s : State) → Free s lane → P s → Around (step_of (Opening lane) s) × P (acts (Opening lane) s).0
-  pub leases : (s : State) → P s → AllByRecursion Around (lease_steps s).1 × P (lease_steps s).0
-  pub message : (n : ℕ) (message : List (List ℕ)) (s : State) → P s → Around (step_of (Item n (items.Message message)) s) × Q (acts (Item n (items.Message message)) s).0
-  pub pairs : (p : Pair) (s : State) → pair s.waiting s.queue ≡ Some p → Q s → Around (step_of (Paired p) s) × Q (acts (Paired p) s).0
-  pub eases : (s : State) → P s → Q s
-  pub settled : (s : State) → pair s.waiting s.queue ≡ None → Q s → P s
+pub record IsWalked (Free : State → ℕ → Type 0) (P Q : Whole → Type 0) (Around : Step → Type 0) : Type 0 where
+  pub plain : (cause : Cause) (w : Whole) → IsPlain cause → P w → Around (step_of cause w (acts cause w)) × P (acts cause w).0
+  pub opens : (lane : ℕ) (w : Whole) → Free w.routing lane → P w → Around (step_of (Opening lane) w (acts (Opening lane) w)) × P (acts (Opening lane) w).0
+  pub leases : (w : Whole) → P w → AllByRecursion Around (lease_steps w).1 × P (lease_steps w).0
+  pub message : (n : ℕ) (message : List (List ℕ)) (w : Whole) → P w
+      → Around (step_of (Item n (items.Message message)) w (acts (Item n (items.Message message)) w)) × Q (acts (Item n (items.Message message)) w).0
+  pub pairs : (p : Pair) (w : Whole) → pair w.routing.waiting w.routing.queue ≡ Some p → Q w → Around (step_of (Paired p) w (acts (Paired p) w)) × Q (acts (Paired p) w).0
+  pub eases : (w : Whole) → P w → Q w
+  pub settled : (w : Whole) → pair w.routing.waiting w.routing.queue ≡ None → Q w → P w
 
 -- what the opening of a lane asks for, where its connection has left
-abbrev pub MayOpen : (State → ℕ → Type 0) → Happening → State → Type 0
-MayOpen Free h s = (lane : ℕ) → h ≡ Opens lane → Free (closes (number_on lane s.connections) s) lane
+abbrev pub MayOpen : (State → ℕ → Type 0) → Happening → Whole → Type 0
+MayOpen Free h w = (lane : ℕ) → h ≡ Opens lane → Free (closes (number_on lane w.routing.connections) (told_by w.store) w.routing) lane
 
 module _ (Around : Step → Type 0) where
-  pub record Stays (R : State → Type 0) (d : Done Step) : Type 0 where
+  pub record Stays (R : Whole → Type 0) (d : Doing Whole Step) : Type 0 where
     pub steps : AllByRecursion Around d.1
     pub end : R d.0
 
-  stays-quiet : (R : State → Type 0) (s : State) → R s → Stays R (quiet s)
-  stays-quiet R s p = record { steps = tt; end = p }
+  stays-quiet : (R : Whole → Type 0) (w : Whole) → R w → Stays R (quiet w)
+  stays-quiet R w p = record { steps = tt; end = p }
 
-  stays-step : (R : State → Type 0) (cause : Cause) (s : State) → Around (step_of cause s) × R (acts cause s).0 → Stays R (step cause s)
-  stays-step R cause s both = record { steps = (both.0, tt); end = both.1 }
+  stays-step : (R : Whole → Type 0) (cause : Cause) (w : Whole) → Around (step_of cause w (acts cause w)) × R (acts cause w).0 → Stays R (step cause w)
+  stays-step R cause w both = record { steps = (both.0, tt); end = both.1 }
 
-  stays-then : (R S : State → Type 0) (d : Done Step) (f : State → Done Step) → Stays R d → ((s : State) → R s → Stays S (f s)) → Stays S (d then f)
+  stays-then : (R S : Whole → Type 0) (d : Doing Whole Step) (f : Whole → Doing Whole Step) → Stays R d → ((w : Whole) → R w → Stays S (f w)) → Stays S (d then f)
   stays-then R S d f first second =
       let rest = second d.0 first.end in
       record { steps = all-append Around d.1 (f d.0).1 first.steps rest.steps; end = rest.end }
 
-  pub stays-each : {X : Type 0} (R : State → Type 0) (f : X → State → Done Step) → ((x : X) (s : State) → R s → Stays R (f x s)) → (xs : List X) (s : State) → R s → Stays R (each f xs s)
-  stays-each R f one [] s p = stays-quiet R s p
-  stays-each R f one (x ∷ xs) s p = stays-then R R (f x s) (each f xs) (one x s p) (λ t q. stays-each R f one xs t q)
+  pub stays-each : {X : Type 0} (R : Whole → Type 0) (f : X → Whole → Doing Whole Step) → ((x : X) (w : Whole) → R w → Stays R (f x w)) → (xs : List X) (w : Whole) → R w → Stays R (each f xs w)
+  stays-each R f one [] w p = stays-quiet R w p
+  stays-each R f one (x ∷ xs) w p = stays-then R R (f x w) (each f xs) (one x w p) (λ v q. stays-each R f one xs v q)
 
-module _ (Free : State → ℕ → Type 0) (P Q : State → Type 0) (Around : Step → Type 0) (walked : IsWalked Free P Q Around) where
-  abbrev Keeps : Done Step → Type 0
+module _ (Free : State → ℕ → Type 0) (P Q : Whole → Type 0) (Around : Step → Type 0) (walked : IsWalked Free P Q Around) where
+  abbrev Keeps : Doing Whole Step → Type 0
   Keeps d = Stays Around P d
 
   -- ---- settling
 
-  stays-pair : (o : Option Pair) (s : State) → pair s.waiting s.queue ≡ o → Q s → Stays Around Q (pair_step o s)
-  stays-pair None s is q = stays-quiet Around Q s q
-  stays-pair (Some p) s is q = stays-step Around Q (Paired p) s (walked.pairs p s is q)
+  stays-pair : (o : Option Pair) (w : Whole) → pair w.routing.waiting w.routing.queue ≡ o → Q w → Stays Around Q (pair_step o w)
+  stays-pair None w is q = stays-quiet Around Q w q
+  stays-pair (Some p) w is q = stays-step Around Q (Paired p) w (walked.pairs p w is q)
 
-  stays-turns : (n : ℕ) (s : State) → Q s → Stays Around Q (turn_steps n s)
-  stays-turns zero s q = stays-quiet Around Q s q
-  stays-turns (suc n) s q =
-      stays-then Around Q Q (pair_step (pair s.waiting s.queue) s) (turn_steps n) (stays-pair (pair s.waiting s.queue) s refl q) (λ t r. stays-turns n t r)
+  stays-turns : (n : ℕ) (w : Whole) → Q w → Stays Around Q (turn_steps n w)
+  stays-turns zero w q = stays-quiet Around Q w q
+  stays-turns (suc n) w q =
+      let o = pair w.routing.waiting w.routing.queue in
+      stays-then Around Q Q (pair_step o w) (turn_steps n) (stays-pair o w refl q) (λ v r. stays-turns n v r)
 
-  pub stays-settling : (s : State) → Q s → Keeps (settle_steps s)
+  pub stays-settling : (w : Whole) → Q w → Keeps (settle_steps w)
   unfolding settle_steps
-  stays-settling s q =
-      let turns = stays-turns (length s.waiting) s q in
-      let none = subst (λ (t : State). pair t.waiting t.queue ≡ None) (sym (reads-settles s).state) (settles-end s) in
-      record { steps = turns.steps; end = walked.settled (settle_steps s).0 none turns.end }
+  stays-settling w q =
+      let turns = stays-turns (suc (length w.routing.waiting)) w q in
+      let none = subst (λ (v : Whole). pair v.routing.waiting v.routing.queue ≡ None) (sym (reads-settles w).state) (settles-end w) in
+      record { steps = turns.steps; end = walked.settled (settle_steps w).0 none turns.end }
 
   -- ---- happenings
 
-  stays-plain : (cause : Cause) → IsPlain cause → (s : State) → P s → Keeps (step cause s)
-  stays-plain cause plain s p = stays-step Around P cause s (walked.plain cause s plain p)
+  stays-plain : (cause : Cause) → IsPlain cause → (w : Whole) → P w → Keeps (step cause w)
+  stays-plain cause plain w p = stays-step Around P cause w (walked.plain cause w plain p)
 
-  stays-item : (n : ℕ) (item : WireItem) (s : State) → P s → Keeps (item_steps n item s)
-  stays-item n items.Accepted s p = stays-plain (Item n items.Accepted) tt s p
-  stays-item n (items.Ready kind) s p = stays-plain (Item n (items.Ready kind)) tt s p
-  stays-item n (items.Message message) s p =
-      stays-then Around Q P (step (Item n (items.Message message)) s) settle_steps (stays-step Around Q (Item n (items.Message message)) s (walked.message n message s p)) stays-settling
-  stays-item n (items.Ended reason at) s p = stays-plain (Item n (items.Ended reason at)) tt s p
+  stays-item : (n : ℕ) (item : WireItem) (w : Whole) → P w → Keeps (item_steps n item w)
+  stays-item n items.Accepted w p = stays-plain (Item n items.Accepted) tt w p
+  stays-item n (items.Ready kind) w p = stays-plain (Item n (items.Ready kind)) tt w p
+  stays-item n (items.Message message) w p =
+      stays-then Around Q P (step (Item n (items.Message message)) w) settle_steps (stays-step Around Q (Item n (items.Message message)) w (walked.message n message w p)) stays-settling
+  stays-item n (items.Ended reason at) w p = stays-plain (Item n (items.Ended reason at)) tt w p
 
-  stays-gains : (o : Option ℕ) (gain : List WireItem) (s : State) → P s → Keeps (gain_steps o gain s)
-  stays-gains None gain s p = stays-quiet Around P s p
-  stays-gains (Some n) gain s p = stays-each Around P (item_steps n) (λ item t q. stays-item n item t q) gain s p
+  stays-gains : (o : Option ℕ) (gain : List WireItem) (w : Whole) → P w → Keeps (gain_steps o gain w)
+  stays-gains None gain w p = stays-quiet Around P w p
+  stays-gains (Some n) gain w p = stays-each Around P (item_steps n) (λ item v q. stays-item n item v q) gain w p
 
-  stays-leases : (s : State) → P s → Keeps (lease_steps s)
-  stays-leases s p = let both = walked.leases s p in record { steps = both.0; end = both.1 }
+  stays-leases : (w : Whole) → P w → Keeps (lease_steps w)
+  stays-leases w p = let both = walked.leases w p in record { steps = both.0; end = both.1 }
 
-  stays-beats : (s : State) → P s → Keeps (beat_steps s)
-  stays-beats s p = stays-each Around P beat_step (λ n t q. stays-plain (Beat n) tt t q) (silent_numbers s) s p
+  stays-beats : (w : Whole) → P w → Keeps (beat_steps w)
+  stays-beats w p = stays-each Around P beat_step (λ n v q. stays-plain (Beat n) tt v q) (silent_numbers w.routing) w p
 
-  pub stays-effect : (h : Happening) (s : State) → MayOpen Free h s → P s → Keeps (effect_steps h s)
-  stays-effect (Opens lane) s free p =
-      let closed = stays-plain (Closing lane) tt s p in
-      let t = closes (number_on lane s.connections) s in
-      let opened = stays-step Around P (Opening lane) t (walked.opens lane t (free lane refl) closed.end) in
-      record { steps = all-append Around (step (Closing lane) s).1 (step (Opening lane) t).1 closed.steps opened.steps; end = opened.end }
-  stays-effect (Gains lane gain) s free p = stays-gains (number_on lane s.connections) gain s p
-  stays-effect (Reports lane) s free p = stays-plain (Report lane) tt s p
-  stays-effect (Closes lane) s free p = stays-plain (Closing lane) tt s p
-  stays-effect (Ticks ms) s free p =
-      stays-then Around P P (step (Time ms) s then lease_steps) beat_steps (stays-then Around P P (step (Time ms) s) lease_steps (stays-plain (Time ms) tt s p) stays-leases) stays-beats
-  stays-effect Stops s free p = stays-quiet Around P s p
+  pub stays-effect : (h : Happening) (w : Whole) → MayOpen Free h w → P w → Keeps (effect_steps h w)
+  stays-effect (Opens lane) w free p =
+      let closed = stays-plain (Closing lane) tt w p in
+      let v = (acts (Closing lane) w).0 in
+      let opened = stays-step Around P (Opening lane) v (walked.opens lane v (free lane refl) closed.end) in
+      record { steps = all-append Around (step (Closing lane) w).1 (step (Opening lane) v).1 closed.steps opened.steps; end = opened.end }
+  stays-effect (Gains lane gain) w free p = stays-gains (number_on lane w.routing.connections) gain w p
+  stays-effect (Reports lane) w free p = stays-plain (Report lane) tt w p
+  stays-effect (Closes lane) w free p = stays-plain (Closing lane) tt w p
+  stays-effect (Ticks ms) w free p =
+      stays-then Around P P (step (Time ms) w then lease_steps) beat_steps (stays-then Around P P (step (Time ms) w) lease_steps (stays-plain (Time ms) tt w p) stays-leases) stays-beats
+  stays-effect Stops w free p = stays-quiet Around P w p
 
-  pub stays-happens : (h : Happening) (s : State) → MayOpen Free h s → P s → Keeps (happening_steps h s)
-  stays-happens h s free p = stays-then Around P P (effect_steps h s) settle_steps (stays-effect h s free p) (λ t q. stays-settling t (walked.eases t q))
+  pub stays-happens : (h : Happening) (w : Whole) → MayOpen Free h w → P w → Keeps (happening_steps h w)
+  stays-happens h w free p = stays-then Around P P (effect_steps h w) settle_steps (stays-effect h w free p) (λ v q. stays-settling v (walked.eases v q))
 
-  -- ---- runs
+-- ---- runs, of what is routed and of the store
 
-  pub stays-run : ((s : State) → P s → (lane : ℕ) → Free (closes (number_on lane s.connections) s) lane) → (limits : Limits) (m : Machine) (events : List Event) → P m.state
-      → AllByRecursion Around (run_steps limits m events) × P (run_state limits m events).state
-  stays-run vacates limits m [] p = (tt, p)
-  stays-run vacates limits m (event ∷ events) p =
-      let h = happening limits m event in
-      let now = stays-happens h m.state (λ lane is. vacates m.state p lane) p in
-      let rest = stays-run vacates limits (state_after limits m event) events (subst P (reads-happens h m.state).state now.end) in
-      (all-append Around (event_steps limits m event) (run_steps limits (state_after limits m event) events) now.steps rest.0, rest.1)
+abbrev pub Of : (State → Store → Type 0) → Whole → Type 0
+Of R w = R w.routing w.store
+
+abbrev pub Vacates : (State → ℕ → Type 0) → (State → Store → Type 0) → Type 0
+Vacates Free R = (s : State) (store : Store) → R s store → (lane : ℕ) → Free (closes (number_on lane s.connections) (told_by store) s) lane
+
+module _ (Free : State → ℕ → Type 0) (R : State → Store → Type 0) (Q : Whole → Type 0) (Around : Step → Type 0) (walked : IsWalked Free (Of R) Q Around) (vacates : Vacates Free R) where
+  pub stays-event : (limits : Limits) (m : Machine) (e : Noted) → R m.state m.store
+      → AllByRecursion Around (event_steps limits m e) × R (state_after limits m e).state (state_after limits m e).store
+  stays-event limits m e p =
+      let h = happening limits m e.event in
+      let w = entered m.state m.store e.notes in
+      let now = stays-happens Free (Of R) Q Around walked h w (λ lane is. vacates m.state m.store p lane) p in
+      (now.steps, subst (Of R) (reads-happens h w).state now.end)
+
+  pub stays-run : (limits : Limits) (m : Machine) (events : List Noted) → R m.state m.store
+      → AllByRecursion Around (run_steps limits m events) × R (run_state limits m events).state (run_state limits m events).store
+  stays-run limits m [] p = (tt, p)
+  stays-run limits m (e ∷ events) p =
+      let now = stays-event limits m e p in
+      let rest = stays-run limits (state_after limits m e) events now.1 in
+      (all-append Around (event_steps limits m e) (run_steps limits (state_after limits m e) events) now.0 rest.0, rest.1)
 
 -- ---- what each act keeps
 
@@ -155,38 +173,56 @@ module _ (Free : State → ℕ → Type 0) (P Q : State → Type 0) (Around : St
 abbrev pub MayBegin : (State → ℕ → Type 0) → Cause → State → Type 0
 MayBegin Free cause s = (lane : ℕ) → cause ≡ Opening lane → Free s lane
 
-abbrev pub IsInvariant : (State → ℕ → Type 0) → (State → Type 0) → Type 0
-IsInvariant Free P = (cause : Cause) (s : State) → MayBegin Free cause s → IsKept cause s P
+abbrev pub IsCarriedOn : (State → ℕ → Type 0) → (Whole → Type 0) → Type 0
+IsCarriedOn Free P = (cause : Cause) (w : Whole) → MayBegin Free cause w.routing → IsCarried cause w (λ d. P d.0)
 
-module _ (Free : State → ℕ → Type 0) (P : State → Type 0) (invariant : IsInvariant Free P) where
-  abbrev OnBothSides : Step → Type 0
+module _ (Free : State → ℕ → Type 0) (P : Whole → Type 0) (invariant : IsCarriedOn Free P) where
+  abbrev pub OnBothSides : Step → Type 0
   OnBothSides t = P t.before × P t.after
 
-  around : (cause : Cause) (s : State) → IsAllowed cause s → MayBegin Free cause s → P s → OnBothSides (step_of cause s) × P (acts cause s).0
-  around cause s allowed free p = let now = kept-acts cause s P (invariant cause s free) allowed p in ((p, now), now)
+  around : (cause : Cause) (w : Whole) → IsAllowed cause w.routing → MayBegin Free cause w.routing → P w → OnBothSides (step_of cause w (acts cause w)) × P (acts cause w).0
+  around cause w allowed free p = let now = walk-acts cause w (λ d. P d.0) (invariant cause w free) allowed p in ((p, now), now)
 
-  expiry : (n : ℕ) (s : State) → P s → Stays OnBothSides P (expiry_step n s)
-  expiry n s p = let both = around (Expiry n) s tt (λ lane is. absurd (cc is)) p in record { steps = (both.0, tt); end = both.1 }
+  expiry : (n : ℕ) (w : Whole) → P w → Stays OnBothSides P (expiry_step n w)
+  expiry n w p = let both = around (Expiry n) w tt (λ lane is. absurd (cc is)) p in record { steps = (both.0, tt); end = both.1 }
 
   same-lane : (lane other : ℕ) → Opening lane ≡ Opening other → lane ≡ other
   same-lane lane other same = cc same
 
   pub walked-kept : IsWalked Free P P OnBothSides
   walked-kept = record {
-    plain = λ cause s plain p. around cause s (plain-allowed cause s plain) (λ lane is. absurd (subst IsPlain is plain)) p;
-    opens = λ lane s free p. around (Opening lane) s tt (λ other is. subst (Free s) (same-lane lane other is) free) p;
-    leases = λ s p. let all = stays-each OnBothSides P expiry_step expiry (due_numbers s) s p in (all.steps, all.end);
-    message = λ n message s p. around (Item n (items.Message message)) s tt (λ lane is. absurd (cc is)) p;
-    pairs = λ q s is p. around (Paired q) s is (λ lane other. absurd (cc other)) p;
-    eases = λ s p. p;
-    settled = λ s none p. p;
+    plain = λ cause w plain p. around cause w (plain-allowed cause w.routing plain) (λ lane is. absurd (subst IsPlain is plain)) p;
+    opens = λ lane w free p. around (Opening lane) w tt (λ other is. subst (Free w.routing) (same-lane lane other is) free) p;
+    leases = λ w p. let all = stays-each OnBothSides P expiry_step expiry (due_numbers w.routing) w p in (all.steps, all.end);
+    message = λ n message w p. around (Item n (items.Message message)) w tt (λ lane is. absurd (cc is)) p;
+    pairs = λ q w is p. around (Paired q) w is (λ lane other. absurd (cc other)) p;
+    eases = λ w p. p;
+    settled = λ w none p. p;
   }
 
-  pub kept-settles : (s : State) → P s → P (settles s).0
-  kept-settles s p = subst P (reads-settles s).state (stays-settling Free P P OnBothSides walked-kept s p).end
+  pub carried-settles : (w : Whole) → P w → P (settles w).0
+  carried-settles w p = subst P (reads-settles w).state (stays-settling Free P P OnBothSides walked-kept w p).end
 
-  pub kept-effect : (h : Happening) (s : State) → MayOpen Free h s → P s → P (effect h s).0
-  kept-effect h s free p = subst P (reads-effect h s).state (stays-effect Free P P OnBothSides walked-kept h s free p).end
+  pub carried-effect : (h : Happening) (w : Whole) → MayOpen Free h w → P w → P (effect h w).0
+  carried-effect h w free p = subst P (reads-effect h w).state (stays-effect Free P P OnBothSides walked-kept h w free p).end
 
-  pub kept-happens : (h : Happening) (s : State) → MayOpen Free h s → P s → P (happens h s).0
-  kept-happens h s free p = subst P (reads-happens h s).state (stays-happens Free P P OnBothSides walked-kept h s free p).end
+  pub carried-happens : (h : Happening) (w : Whole) → MayOpen Free h w → P w → P (happens h w).0
+  carried-happens h w free p = subst P (reads-happens h w).state (stays-happens Free P P OnBothSides walked-kept h w free p).end
+
+-- ---- of what is routed alone
+
+abbrev pub IsInvariant : (State → ℕ → Type 0) → (State → Type 0) → Type 0
+IsInvariant Free P = (cause : Cause) (s : State) → MayBegin Free cause s → IsKept cause s P
+
+module _ (Free : State → ℕ → Type 0) (P : State → Type 0) (invariant : IsInvariant Free P) where
+  pub carried-on : IsCarriedOn Free (λ w. P w.routing)
+  carried-on cause w free = kept-carried cause w P (invariant cause w.routing free)
+
+  pub kept-settles : (w : Whole) → P w.routing → P (settles w).0.routing
+  kept-settles w p = carried-settles Free (λ v. P v.routing) carried-on w p
+
+  pub kept-effect : (h : Happening) (w : Whole) → MayOpen Free h w → P w.routing → P (effect h w).0.routing
+  kept-effect h w free p = carried-effect Free (λ v. P v.routing) carried-on h w free p
+
+  pub kept-happens : (h : Happening) (w : Whole) → MayOpen Free h w → P w.routing → P (happens h w).0.routing
+  kept-happens h w free p = carried-happens Free (λ v. P v.routing) carried-on h w free p

@@ -1,8 +1,12 @@
 -- The worked run in its single acts, computed.
 use Rattle.std.proofs.Common.{refl}
-use Rattle.mj_machine.specs.Steps.{settle_steps}
-use Rattle.mj_machine.specs.WorkedSteps.{RunIsInSteps}
+use Rattle.mj_machine.proofs.OnLiterals.{runs_on_literals}
+use Rattle.mj_machine.specs.WorkedSteps.{RunIsInSteps, TicketIsGivenBackInSteps}
 
 pub run_is_in_steps : RunIsInSteps
-unfolding settle_steps
+unfolding runs_on_literals
 run_is_in_steps = refl
+
+pub ticket_is_given_back_in_steps : TicketIsGivenBackInSteps
+unfolding runs_on_literals
+ticket_is_given_back_in_steps = refl

@@ -1,21 +1,24 @@
--- Acts: what is done to a state, with what is done to the lanes on the way.
+-- Acts: what is done to a state, with what is added on the way.
 use Rattle.std.specs.Prelude.{List, [], ◌∷◌, ◌++◌}
-use Rattle.mj_machine.specs.MachineState.{State}
 
 -- the state after an act, and what it adds
-abbrev pub Done : Type 0 → Type 0
-Done A = State × List A
+abbrev pub Doing : Type 0 → Type 0 → Type 0
+Doing S A = S × List A
+
+-- what was added before stands in front
+abbrev pub behind : {S A : Type 0} → List A → Doing S A → Doing S A
+behind added d = (d.0, added ++ d.1)
 
 -- one act, and then another
 infixl 10 ◌then◌
-abbrev pub ◌then◌ : {A : Type 0} → Done A → (State → Done A) → Done A
-before then act = ((act before.0).0, before.1 ++ (act before.0).1)
+abbrev pub ◌then◌ : {S A : Type 0} → Doing S A → (S → Doing S A) → Doing S A
+before then act = behind before.1 (act before.0)
 
 -- nothing is added
-abbrev pub quiet : {A : Type 0} → State → Done A
+abbrev pub quiet : {S A : Type 0} → S → Doing S A
 quiet s = (s, [])
 
 -- an act for each of these, in order
-abbrev pub each : {A X : Type 0} → (X → State → Done A) → List X → State → Done A
+abbrev pub each : {S A X : Type 0} → (X → S → Doing S A) → List X → S → Doing S A
 each act [] s = (s, [])
 each act (x ∷ xs) s = act x s then each act xs

@@ -6,13 +6,13 @@ use Rattle.mj_base.specs.declared.event.Event.TheVariants.{Bytes, Open}
 use Rattle.mj_base.specs.declared.event.Out.{Out}
 use Rattle.mj_base.specs.declared.event.Out.TheVariants.{End, Piece}
 use Rattle.mj_base.specs.declared.reason.Reason.TheVariants.{BadFlags, BadMechanism, BadVersion, TooLong}
-use Rattle.mj_machine.specs.MachineRun.{run_outs}
+use Rattle.mj_machine.specs.MachineRun.{plainly, run_outs}
 use Rattle.mj_machine.specs.MachineState.{start}
 
 -- ---- spelling
 
 abbrev pub Puts : List Event → List Out → Type 0
-Puts events outs = run_outs standard_limits (start standard_limits) events ≡ outs
+Puts events outs = run_outs standard_limits (start standard_limits) (plainly events) ≡ outs
 
 -- version 3.0, mechanism NULL
 abbrev pub greeting : List ℕ

@@ -4,6 +4,7 @@ use Rattle.std.specs.Option.{option_map, unwrap_or}
 use Rattle.std.specs.List.{find}
 use Rattle.mj_base.specs.declared.event.Event.{Event}
 use Rattle.mj_base.specs.declared.event.Event.TheVariants as events
+use Rattle.mj_base.specs.declared.event.Note.{Note}
 use Rattle.mj_base.specs.declared.event.Out.{Out}
 use Rattle.mj_base.specs.declared.limits.Limits.{Limits}
 use Rattle.mj_base.specs.declared.reason.Reason.{Reason}
@@ -15,27 +16,32 @@ use Rattle.mj_wire.specs.declared.item.WireItem.{WireItem}
 use Rattle.mj_wire.specs.declared.item.WireItem.TheVariants as items
 use Rattle.mj_machine.specs.declared.connection.Connection.{Connection}
 use Rattle.mj_machine.specs.declared.connection.Role.TheVariants.{Fresh}
-use Rattle.mj_machine.specs.MachineState.{Machine, State, Stream}
+use Rattle.mj_machine.specs.StoreState.{Told}
+use Rattle.mj_machine.specs.MachineState.{Act, Done, Machine, State, Stream, Whole, entered, machine_of}
 use Rattle.mj_machine.specs.Connections.{changed, connection_of, number_on}
-use Rattle.mj_machine.specs.Acts.{Done, each, quiet, ◌then◌}
+use Rattle.mj_machine.specs.Acts.{Doing, each, quiet, ◌then◌}
 use Rattle.mj_machine.specs.Leaving.{ends, removed}
 use Rattle.mj_machine.specs.Sending.{sends}
+use Rattle.mj_machine.specs.DiskActs.{routes}
 use Rattle.mj_machine.specs.Pairing.{settles}
 use Rattle.mj_machine.specs.MessageStep.{message_step}
 use Rattle.mj_machine.specs.TickStep.{ticks}
 
 -- ---- one item of a stream
 
-abbrev pub ends_by : ℕ → Option Connection → Reason → ℕ → State → Done Out
-ends_by n None reason at s = quiet s
-ends_by n (Some c) reason at s = ends c.lane n reason at s
+abbrev pub ends_by : ℕ → Option Connection → Reason → ℕ → Told → State → Done Out
+ends_by n None reason at told s = quiet s
+ends_by n (Some c) reason at told s = ends c.lane n reason at told s
+
+abbrev pub ends_at : ℕ → Reason → ℕ → Told → State → Done Out
+ends_at n reason at told s = ends_by n (connection_of n s.connections) reason at told s
 
 -- READY follows the peer's greeting; the peer's READY says nothing further; a fault ends the connection
-abbrev pub item_step : ℕ → WireItem → State → Done Out
-item_step n items.Accepted s = sends n (ready_frame Router) s
-item_step n (items.Ready kind) s = quiet s
-item_step n (items.Message message) s = message_step n message s
-item_step n (items.Ended reason at) s = ends_by n (connection_of n s.connections) reason at s
+abbrev pub item_step : ℕ → WireItem → Act
+item_step n items.Accepted w = routes (sends n (ready_frame Router)) w
+item_step n (items.Ready kind) w = quiet w
+item_step n (items.Message message) w = message_step n message w
+item_step n (items.Ended reason at) w = routes (ends_at n reason at) w
 
 -- ---- an event, with the items of a stream in place of its bytes
 
@@ -47,9 +53,12 @@ pub data Happening : Type 0 where
   Ticks : (ms : ℕ) → Happening
   Stops : Happening
 
-abbrev pub closes : Option ℕ → State → State
-closes None s = s
-closes (Some n) s = removed n s
+abbrev pub closes : Option ℕ → Told → State → State
+closes None told s = s
+closes (Some n) told s = removed n told s
+
+abbrev pub closes_on : ℕ → Told → State → Done Out
+closes_on lane told s = quiet (closes (number_on lane s.connections) told s)
 
 -- a connection that nothing was sent to and that has sent nothing
 abbrev pub opened : ℕ → State → State
@@ -59,12 +68,12 @@ opened lane s = record s {
 }
 
 -- it is greeted at once
-abbrev pub opens : ℕ → State → Done Out
-opens lane s = sends s.next broker_greeting (opened lane s)
+abbrev pub opens : ℕ → Told → State → Done Out
+opens lane told s = sends s.next broker_greeting told (opened lane s)
 
-abbrev pub gains : Option ℕ → List WireItem → State → Done Out
-gains None gain s = quiet s
-gains (Some n) gain s = each (item_step n) gain s
+abbrev pub gains : Option ℕ → List WireItem → Act
+gains None gain w = quiet w
+gains (Some n) gain w = each (item_step n) gain w
 
 -- the oldest piece was sent
 abbrev pub delivered : Connection → Connection
@@ -74,19 +83,27 @@ abbrev pub reports : Option ℕ → State → State
 reports None s = s
 reports (Some n) s = record s { connections = changed n delivered s.connections }
 
-abbrev pub effect : Happening → State → Done Out
-effect (Opens lane) s = opens lane (closes (number_on lane s.connections) s)
-effect (Gains lane gain) s = gains (number_on lane s.connections) gain s
-effect (Reports lane) s = quiet (reports (number_on lane s.connections) s)
-effect (Closes lane) s = quiet (closes (number_on lane s.connections) s)
-effect (Ticks ms) s = ticks ms s
-effect Stops s = quiet s
+abbrev pub reports_on : ℕ → Told → State → Done Out
+reports_on lane told s = quiet (reports (number_on lane s.connections) s)
+
+abbrev pub effect : Happening → Act
+effect (Opens lane) w = routes (closes_on lane) w then routes (opens lane)
+effect (Gains lane gain) w = gains (number_on lane w.routing.connections) gain w
+effect (Reports lane) w = routes (reports_on lane) w
+effect (Closes lane) w = routes (closes_on lane) w
+effect (Ticks ms) w = routes (ticks ms) w
+effect Stops w = quiet w
 
 -- settling comes last
-abbrev pub happens : Happening → State → Done Out
-happens h s = effect h s then settles
+abbrev pub happens : Happening → Act
+happens h w = effect h w then settles
 
 -- ---- an event
+
+-- an event, and the notes that say what becomes of its acts on the disk
+pub record Noted : Type 0 where
+  pub event : Event
+  pub notes : List Note
 
 abbrev pub stream_of : ℕ → List Stream → List ℕ
 stream_of n streams = unwrap_or (option_map (λ t. t.octets) (find (λ t. t.number == n) streams)) []
@@ -123,8 +140,11 @@ streams_after m (events.Close lane) = m.streams
 streams_after m (events.Tick ms) = m.streams
 streams_after m events.Stop = m.streams
 
-abbrev pub state_after : Limits → Machine → Event → Machine
-state_after limits m event = record { state = (happens (happening limits m event) m.state).0; streams = streams_after m event }
+abbrev pub does : Limits → Machine → Noted → Doing Whole Out
+does limits m e = happens (happening limits m e.event) (entered m.state m.store e.notes)
 
-abbrev pub outs_of : Limits → Machine → Event → List Out
-outs_of limits m event = (happens (happening limits m event) m.state).1
+abbrev pub state_after : Limits → Machine → Noted → Machine
+state_after limits m e = machine_of (does limits m e).0 (streams_after m e.event)
+
+abbrev pub outs_of : Limits → Machine → Noted → List Out
+outs_of limits m e = (does limits m e).1

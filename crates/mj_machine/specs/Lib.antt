@@ -1,9 +1,13 @@
+pub mod Acts
+pub mod StoreState
 pub mod MachineState
 pub mod Connections
-pub mod Acts
-pub mod Sending
 pub mod Leaving
+pub mod Sending
+pub mod DiskActs
 pub mod Pairing
+pub mod TitanicStep
+pub mod TitanicAnswers
 pub mod MessageStep
 pub mod TickStep
 pub mod EventStep
@@ -14,6 +18,9 @@ pub mod ClientWorkerRuns
 pub mod LeaseRuns
 pub mod VersionRuns
 pub mod LimitRuns
+pub mod StoreSpelling
+pub mod StoreRuns
+pub mod ShutRuns
 pub mod Steps
 pub mod Laws
 pub mod WorkedSteps

@@ -5,10 +5,13 @@ use Rattle.mj_base.specs.declared.event.Out.TheVariants.{End}
 use Rattle.mj_base.specs.declared.reason.Reason.TheVariants.{QueueFull, Slow}
 use Rattle.mj_base.specs.declared.version.Version.TheVariants.{One}
 use Rattle.mj_queue.specs.declared.request.Origin.TheVariants.{Ticket}
+use Rattle.mj_tickets.specs.declared.command.TicketCmd.TheVariants.{Accept}
 use Rattle.mj_machine.specs.declared.connection.Role.TheVariants.{Worker}
+use Rattle.mj_machine.specs.StoreState.{opened_store}
 use Rattle.mj_machine.specs.EventStep.{Closes, Reports, Ticks}
-use Rattle.mj_machine.specs.MachineState.{State, start_state}
+use Rattle.mj_machine.specs.MachineState.{Whole, entered, start_state}
 use Rattle.mj_machine.specs.RunSpelling.{Gives, Goes, asking, code, hears, joins, ready, reply, request, says, who_serves, worker, ◌gives◌}
+use Rattle.mj_machine.specs.StoreSpelling.{first_id, zeros}
 
 -- ---- the queue
 
@@ -93,14 +96,14 @@ SlowWorkersLoseTheirRequest = Gives (record standard_limits { out_pieces = 2 }) 
 
 -- ---- settling
 
--- a worker waits on lane 0 since moment 0 while a ticket's request for its service is queued
-abbrev pub unsettled : State
-unsettled = record (start_state standard_limits) {
+-- a worker waits on lane 0 since moment 0 while the request of the file's one ticket is queued
+abbrev pub unsettled : Whole
+unsettled = entered (record (start_state standard_limits) {
   next = 2;
   connections = record { lane = 0; number = 1; role = Worker (record { version = One; lead = true; service = codes "echo"; mark = 0; spoken = 0 }); outstanding = [] } ∷ [];
   waiting = record { worker = 1; service = codes "echo" } ∷ [];
-  queue = record { origin = Ticket 1; service = codes "echo"; version = One; lead = true; body = codes "hi" ∷ [] } ∷ [];
-}
+  queue = record { origin = Ticket 1; service = codes "echo"; version = One; lead = true; body = [] } ∷ [];
+}) (opened_store zeros 1 (Accept first_id (codes "echo") (codes "hi" ∷ []) ∷ [])) []
 
 -- the request of the first ticket
 abbrev pub ticket_request : List (List ℕ)

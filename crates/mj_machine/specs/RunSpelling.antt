@@ -9,9 +9,11 @@ use Rattle.mj_handshake.specs.ReadyGrammar.{ready_frame}
 use Rattle.mj_handshake.specs.declared.socket_type.SocketType.{SocketType}
 use Rattle.mj_handshake.specs.declared.socket_type.SocketType.TheVariants.{Dealer, Router}
 use Rattle.mj_wire.specs.declared.item.WireItem.TheVariants.{Accepted, Message, Ready}
-use Rattle.mj_machine.specs.Acts.{each}
+use Rattle.mj_machine.specs.StoreState.{Store, no_store}
+use Rattle.mj_machine.specs.MachineState.{Whole, between, entered, start_with}
+use Rattle.mj_machine.specs.Acts.{Doing, each}
+use Rattle.mj_machine.specs.DiskActs.{notes_in}
 use Rattle.mj_machine.specs.EventStep.{Gains, Happening, Opens, happens}
-use Rattle.mj_machine.specs.MachineState.{State, start_state}
 
 -- ---- runs
 
@@ -23,18 +25,33 @@ infixl 5 ◌gives◌
 abbrev pub ◌gives◌ : Happening → List Out → Turn
 h gives outs = (h ∷ [], outs)
 
+-- the notes of a turn are those that it must give
+abbrev pub turned : Turn → Whole → Doing Whole Out
+turned turn w = each happens turn.0 (entered w.routing w.store (notes_in turn.1))
+
+abbrev pub and_on : Doing Whole Out → (Whole → List (List Out)) → List (List Out)
+and_on d rest = d.1 ∷ rest d.0
+
 -- what is done at each turn
-abbrev pub outs_by_turn : List Turn → State → List (List Out)
-outs_by_turn [] s = []
-outs_by_turn (turn ∷ turns) s = (each happens turn.0 s).1 ∷ outs_by_turn turns (each happens turn.0 s).0
+abbrev pub outs_by_turn : List Turn → Whole → List (List Out)
+outs_by_turn [] w = []
+outs_by_turn (turn ∷ turns) w = and_on (turned turn w) (outs_by_turn turns)
 
--- from this state on each turn gives what it must
-abbrev pub Goes : State → List Turn → Type 0
-Goes s turns = outs_by_turn turns s ≡ map (λ turn. turn.1) turns
+-- from here on each turn gives what it must
+abbrev pub Goes : Whole → List Turn → Type 0
+Goes w turns = outs_by_turn turns w ≡ map (λ turn. turn.1) turns
 
--- from the start on
+-- from the start on, with this store or without one
+abbrev pub GivesWith : Limits → Store → List Turn → Type 0
+GivesWith limits store turns = Goes (between (start_with limits store)) turns
+
 abbrev pub Gives : Limits → List Turn → Type 0
-Gives limits turns = Goes (start_state limits) turns
+Gives limits turns = GivesWith limits no_store turns
+
+-- where the turns end
+abbrev pub end_of_turns : List Turn → Whole → Whole
+end_of_turns [] w = w
+end_of_turns (turn ∷ turns) w = end_of_turns turns (turned turn w).0
 
 -- ---- what peers say and hear
 
@@ -78,6 +95,10 @@ disconnect = worker ((5 ∷ []) ∷ [])
 -- a client's request, and the reply to it
 abbrev pub asking : List ℕ → List ℕ → List (List ℕ)
 asking service body = [] ∷ codes "MDPC01" ∷ service ∷ body ∷ []
+
+-- with any frames
+abbrev pub asking_with : List ℕ → List (List ℕ) → List (List ℕ)
+asking_with service frames = [] ∷ codes "MDPC01" ∷ service ∷ frames
 
 -- who serves this service, and the answer to it (ZeroMQ RFC 8)
 abbrev pub who_serves : List ℕ → List (List ℕ)

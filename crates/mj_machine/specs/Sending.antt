@@ -14,9 +14,10 @@ use Rattle.mj_worker_cmd.specs.WorkerWriting.{order_frames}
 use Rattle.mj_worker_cmd.specs.declared.command.OrderAct.{OrderAct}
 use Rattle.mj_machine.specs.declared.connection.Connection.{Connection}
 use Rattle.mj_machine.specs.declared.connection.Voice.{Voice}
-use Rattle.mj_machine.specs.MachineState.{State}
+use Rattle.mj_machine.specs.StoreState.{Told}
+use Rattle.mj_machine.specs.MachineState.{Done, State}
 use Rattle.mj_machine.specs.Connections.{changed, connection_of, spoken_to}
-use Rattle.mj_machine.specs.Acts.{Done, quiet}
+use Rattle.mj_machine.specs.Acts.{quiet}
 use Rattle.mj_machine.specs.Leaving.{ends}
 
 -- one piece more would be too many, or their bytes too many
@@ -28,16 +29,16 @@ abbrev pub sent : ℕ → ℕ → Connection → Connection
 sent now octets c = record c { role = spoken_to now c.role; outstanding = c.outstanding ++ octets ∷ [] }
 
 -- a peer that is too slow is cut off, with the bytes that it hasn't taken
-abbrev pub sends_if : Bool → ℕ → List ℕ → Connection → State → Done Out
-sends_if true n piece c s = ends c.lane n Slow (sum c.outstanding) s
-sends_if false n piece c s = (record s { connections = changed n (sent s.now (length piece)) s.connections }, Piece c.lane piece ∷ [])
+abbrev pub sends_if : Bool → ℕ → List ℕ → Connection → Told → State → Done Out
+sends_if true n piece c told s = ends c.lane n Slow (sum c.outstanding) told s
+sends_if false n piece c told s = (record s { connections = changed n (sent s.now (length piece)) s.connections }, Piece c.lane piece ∷ [])
 
-abbrev pub sends_to : ℕ → List ℕ → Option Connection → State → Done Out
-sends_to n piece None s = quiet s
-sends_to n piece (Some c) s = sends_if (is_slow s.limits c (length piece)) n piece c s
+abbrev pub sends_to : ℕ → List ℕ → Option Connection → Told → State → Done Out
+sends_to n piece None told s = quiet s
+sends_to n piece (Some c) told s = sends_if (is_slow s.limits c (length piece)) n piece c told s
 
-abbrev pub sends : ℕ → List ℕ → State → Done Out
-sends n piece s = sends_to n piece (connection_of n s.connections) s
+abbrev pub sends : ℕ → List ℕ → Told → State → Done Out
+sends n piece told s = sends_to n piece (connection_of n s.connections) told s
 
 -- the client's connection number behind `C`, a ticket's number behind `T`
 abbrev pub address : Origin → List ℕ

@@ -8,9 +8,10 @@ use Rattle.mj_machine.specs.declared.connection.Connection.{Connection}
 use Rattle.mj_machine.specs.declared.connection.Role.{Role}
 use Rattle.mj_machine.specs.declared.connection.Role.TheVariants.{Fresh, Client, Worker, Gone}
 use Rattle.mj_machine.specs.declared.held.Held.{Held}
-use Rattle.mj_machine.specs.MachineState.{State}
+use Rattle.mj_machine.specs.StoreState.{Told}
+use Rattle.mj_machine.specs.MachineState.{Done, State}
 use Rattle.mj_machine.specs.Connections.{connection_of, voice_of}
-use Rattle.mj_machine.specs.Acts.{Done, each, ◌then◌}
+use Rattle.mj_machine.specs.Acts.{each}
 use Rattle.mj_machine.specs.Leaving.{becomes, left}
 use Rattle.mj_machine.specs.Sending.{order_text, sends}
 
@@ -43,12 +44,12 @@ abbrev pub due_numbers : State → List ℕ
 due_numbers s = numbers (filter (is_due s) s.connections)
 
 -- it leaves, and may register anew; it is told nothing
-abbrev pub expires : ℕ → State → State
-expires n s = becomes n Fresh (left n s)
+abbrev pub expires : ℕ → Told → State → State
+expires n told s = becomes n Fresh (left n told s)
 
-abbrev pub all_expire : List ℕ → State → State
-all_expire [] s = s
-all_expire (n ∷ ns) s = all_expire ns (expires n s)
+abbrev pub all_expire : List ℕ → Told → State → State
+all_expire [] told s = s
+all_expire (n ∷ ns) told s = all_expire ns told (expires n told s)
 
 -- nothing was sent to this worker for an interval
 abbrev pub is_unspoken : Limits → ℕ → Role → Bool
@@ -61,18 +62,18 @@ is_unspoken limits now Gone = false
 abbrev pub silent_numbers : State → List ℕ
 silent_numbers s = numbers (filter (λ c. is_unspoken s.limits s.now c.role) s.connections)
 
-abbrev pub beats : ℕ → State → Done Out
-beats n s = sends n (order_text (voice_of (connection_of n s.connections)) order.Heartbeat) s
+abbrev pub beats : ℕ → Told → State → Done Out
+beats n told s = sends n (order_text (voice_of (connection_of n s.connections)) order.Heartbeat) told s
 
 abbrev pub at_moment : ℕ → State → State
 at_moment ms s = record s { now = max s.now ms }
 
 -- all leases end before the first heartbeat
-abbrev pub leases_end : State → State
-leases_end s = all_expire (due_numbers s) s
+abbrev pub leases_end : Told → State → State
+leases_end told s = all_expire (due_numbers s) told s
 
-abbrev pub all_beat : State → Done Out
-all_beat s = each beats (silent_numbers s) s
+abbrev pub all_beat : Told → State → Done Out
+all_beat told s = each (λ n t. beats n told t) (silent_numbers s) s
 
-abbrev pub ticks : ℕ → State → Done Out
-ticks ms s = all_beat (leases_end (at_moment ms s))
+abbrev pub ticks : ℕ → Told → State → Done Out
+ticks ms told s = all_beat told (leases_end told (at_moment ms s))

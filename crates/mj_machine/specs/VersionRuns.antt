@@ -118,8 +118,8 @@ beat now =
     ∷ []
 
 -- a worker of each version and a client of each, over four heartbeats
-abbrev pub TheLongSession : Type 0
-TheLongSession = Gives standard_limits ((
+abbrev pub long_session : List Turn
+long_session = (
     joins 0
     ∷ joins 1
     ∷ joins_as Req 2
@@ -131,4 +131,7 @@ TheLongSession = Gives standard_limits ((
     ∷ (says 3 (asking_two (codes "sum") (codes "1" ∷ codes "2" ∷ [])) gives hears 1 (request_two 4 (codes "1" ∷ codes "2" ∷ [])))
     ∷ (says 1 (partial_two 4 (codes "half" ∷ [])) gives hears 3 (part_two (codes "sum") (codes "half" ∷ [])))
     ∷ (says 1 (final_two 4 (codes "3" ∷ [])) gives hears 3 (answer_two (codes "sum") (codes "3" ∷ [])))
-    ∷ []) ++ (beat 2500 ++ (beat 5000 ++ (beat 7500 ++ beat 10000))))
+    ∷ []) ++ (beat 2500 ++ (beat 5000 ++ (beat 7500 ++ beat 10000)))
+
+abbrev pub TheLongSession : Type 0
+TheLongSession = Gives standard_limits long_session

@@ -7,14 +7,19 @@ use Rattle.mj_handshake.specs.declared.socket_type.SocketType.TheVariants.{Deale
 use Rattle.mj_queue.specs.Settling.{Pair}
 use Rattle.mj_queue.specs.declared.request.Origin.TheVariants.{Client}
 use Rattle.mj_wire.specs.declared.item.WireItem.TheVariants.{Accepted, Message, Ready}
+use Rattle.mj_machine.specs.StoreState.{Store, no_store, ticket_request}
 use Rattle.mj_machine.specs.Acts.{each}
 use Rattle.mj_machine.specs.EventStep.{Closes, Gains, Happening, Reports, Ticks}
-use Rattle.mj_machine.specs.MachineState.{start_state}
+use Rattle.mj_machine.specs.MachineState.{between, start_with}
 use Rattle.mj_machine.specs.Steps.{Beat, Cause, Closing, Expiry, Item, Opening, Paired, Report, Time, happening_steps}
 use Rattle.mj_machine.specs.RunSpelling.{client, joins}
+use Rattle.mj_machine.specs.StoreSpelling.{accept, first_id, over}
+
+abbrev pub MakesWith : Limits → Store → List Happening → List Cause → Type 0
+MakesWith limits store happenings causes = map (λ t. t.cause) (each happening_steps happenings (between (start_with limits store))).1 ≡ causes
 
 abbrev pub Makes : Limits → List Happening → List Cause → Type 0
-Makes limits happenings causes = map (λ t. t.cause) (each happening_steps happenings (start_state limits)).1 ≡ causes
+Makes limits happenings causes = MakesWith limits no_store happenings causes
 
 abbrev pub joining : ℕ → ℕ → List Cause
 joining lane n = Closing lane ∷ Opening lane ∷ Item n Accepted ∷ Item n (Ready Dealer) ∷ []
@@ -45,3 +50,15 @@ RunIsInSteps = Makes standard_limits
     ∷ Gains 0 (Message replied ∷ []) ∷ Reports 0 ∷ Ticks 2500 ∷ Ticks 60000 ∷ Closes 1 ∷ [])))
     (joining 0 1 ++ (joining 1 2 ++ (Item 1 (Message ready) ∷ Item 2 (Message (asked (codes "a"))) ∷ Paired (gets (codes "a")) ∷ Item 2 (Message (asked (codes "b")))
     ∷ Item 1 (Message replied) ∷ Paired (gets (codes "b")) ∷ Report 0 ∷ Time 2500 ∷ Beat 1 ∷ Time 60000 ∷ Expiry 1 ∷ Closing 1 ∷ [])))
+
+-- this worker gets the first ticket
+abbrev pub gets_ticket : ℕ → Pair
+gets_ticket n = record { waiter = record { worker = n; service = codes "echo" }; request = ticket_request 1 (codes "echo"); waiting = []; requests = [] }
+
+-- a worker's lease ends in the middle of a tick and gives its ticket back while another worker waits for it: the other's
+-- heartbeat comes first
+abbrev pub TicketIsGivenBackInSteps : Type 0
+TicketIsGivenBackInSteps = MakesWith standard_limits (over (accept first_id (codes "echo") (codes "hi") ∷ []))
+    ((joins 0).0 ++ (Gains 0 (Message ready ∷ []) ∷ Ticks 59000 ∷ (joins 1).0 ++ (Gains 1 (Message ready ∷ []) ∷ Ticks 61500 ∷ [])))
+    (joining 0 1 ++ (Item 1 (Message ready) ∷ Paired (gets_ticket 1) ∷ Time 59000 ∷ Beat 1 ∷ joining 1 2
+    ++ (Item 2 (Message ready) ∷ Time 61500 ∷ Expiry 1 ∷ Beat 2 ∷ Paired (gets_ticket 2) ∷ [])))

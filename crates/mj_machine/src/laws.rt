@@ -1,6 +1,6 @@
 //! Laws of runs, proved once and for all. The functions do nothing.
 ghost use Rattle.mj_machine.specs.Laws.{FrontAndRestOuts, FrontAndRestState, FrontAndRestSteps, StepsDo, StepsLead};
-ghost use Rattle.mj_machine.specs.WorkedSteps.{RunIsInSteps};
+ghost use Rattle.mj_machine.specs.WorkedSteps.{RunIsInSteps, TicketIsGivenBackInSteps};
 
 /// A run over a list of events is a run over its front, and from there over its rest.
 pub fn a_run_is_its_front_and_its_rest()
@@ -16,7 +16,9 @@ pub fn steps_are_the_run()
     ensures outs { StepsDo }
 {}
 
-/// A worker, two requests in one piece, a reply, a heartbeat, a lease's end and a leaving, in their single acts.
-pub fn a_worked_run_in_steps()
-    ensures { RunIsInSteps }
+/// A worker, two requests in one piece, a reply, a heartbeat, a lease's end and a leaving, in their single acts; and a
+/// ticket that is given back in the middle of a tick.
+pub fn worked_runs_in_steps()
+    ensures requests { RunIsInSteps }
+    ensures ticket { TicketIsGivenBackInSteps }
 {}

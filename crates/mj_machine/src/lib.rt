@@ -10,7 +10,7 @@ mod worked;
 
 pub use connection::{Connection, Registration, Role, Voice};
 pub use held::Held;
-pub use laws::{a_run_is_its_front_and_its_rest, a_worked_run_in_steps, steps_are_the_run};
+pub use laws::{a_run_is_its_front_and_its_rest, steps_are_the_run, worked_runs_in_steps};
 pub use lengths::Lengths;
 pub use said::Said;
-pub use worked::the_worked_runs;
+pub use worked::{the_worked_runs, the_worked_runs_with_a_store};

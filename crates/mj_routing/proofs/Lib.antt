@@ -1,3 +1,4 @@
+pub mod StorelessLemmas
 pub mod KeyedLemmas
 pub mod PlaceLemmas
 pub mod DeadlineLemmas

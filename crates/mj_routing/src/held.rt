@@ -1,7 +1,7 @@
 //! The requests that workers hold.
 ghost use Rattle.std.specs.Prelude.{◌≡◌, IfOk};
+ghost use Rattle.mj_machine.specs.Leaving;
 ghost use Rattle.mj_machine.specs.Leaving.{held_without};
-ghost use Rattle.mj_machine.specs.MessageStep;
 ghost use Rattle.mj_machine.specs.TickStep;
 
 use mj_base::NoMemory;
@@ -10,7 +10,7 @@ use mj_queue::Request;
 
 /// A copy of the request that this worker holds.
 pub fn held_by(held: &[Held], worker: u64) -> Result<Option<Request>, NoMemory>
-    ensures { IfOk result (λ request. request ≡ MessageStep.held_by worker held.now) }
+    ensures { IfOk result (λ request. request ≡ Leaving.held_by worker held.now) }
 {
     match held.iter().find(|held| held.worker == worker) {
         None => Ok(None),

@@ -1,10 +1,11 @@
-ghost use Rattle.std.specs.Prelude.{◌≡◌, ◌+◌, ◌++◌, [], ◌≤◌, ◌<◌, ◌^◌, vec_len, vec_capacity, is_some, None, Some, IsOk, OnOk, IfOk};
+ghost use Rattle.std.specs.Prelude.{◌≡◌, ◌+◌, ◌++◌, [], ◌≤◌, ◌<◌, ◌^◌, vec_len, vec_capacity, is_some, true, None, Some, IsOk, OnOk, IfOk, IfSome};
 ghost use Rattle.std.specs.List.{list_any};
-ghost use Rattle.mj_queue.specs.Settling.{pair};
+ghost use Rattle.mj_queue.specs.Settling.{is_of_client, pair};
 ghost use Rattle.mj_machine.specs.Acts.{quiet};
 ghost use Rattle.mj_machine.specs.Connections;
 ghost use Rattle.mj_machine.specs.Connections.{connection_of};
 ghost use Rattle.mj_machine.specs.EventStep.{opened, reports};
+ghost use Rattle.mj_machine.specs.Leaving;
 ghost use Rattle.mj_machine.specs.Leaving.{becomes, ends, goes, removed};
 ghost use Rattle.mj_machine.specs.MachineState.{start_state};
 ghost use Rattle.mj_machine.specs.MessageStep;
@@ -14,6 +15,7 @@ ghost use Rattle.mj_machine.specs.Sending.{sends};
 ghost use Rattle.mj_machine.specs.TickStep.{at_moment, due_numbers, expires, is_unspoken, silent_numbers};
 ghost use Rattle.mj_routing.specs.RoutingState.{Does, HandsOver, Turns};
 ghost use Rattle.mj_routing.specs.Places.{standing_of};
+ghost use Rattle.mj_routing.specs.Storeless.{OfClients, alone, untold};
 ghost use Rattle.mj_machine.specs.declared.connection.Role;
 
 use crate::connections::{self, Standing, Verdict};
@@ -86,8 +88,9 @@ impl Routing {
     }
 
     /// Takes a connection out, with all that waits or is queued for it.
+    #[tactic(auto, using(crate::proofs::StorelessLemmas::given_back_untold))]
     pub fn remove(&mut self, number: u64)
-        ensures { self.new ≡ removed number self.old }
+        ensures { self.new ≡ removed number untold self.old }
     {
         self.hall.drop_worker(number);
         self.hall.drop_client(number);
@@ -97,8 +100,9 @@ impl Routing {
     }
 
     /// Passes a connection over from now on.
+    #[tactic(auto, using(crate::proofs::StorelessLemmas::given_back_untold))]
     pub fn go(&mut self, number: u64)
-        ensures { self.new ≡ goes number self.old }
+        ensures { self.new ≡ goes number untold self.old }
     {
         self.hall.drop_worker(number);
         self.hall.drop_client(number);
@@ -108,8 +112,9 @@ impl Routing {
     }
 
     /// Ends a worker's lease: it may register anew.
+    #[tactic(auto, using(crate::proofs::StorelessLemmas::given_back_untold))]
     pub fn expire(&mut self, number: u64)
-        ensures { self.new ≡ expires number self.old }
+        ensures { self.new ≡ expires number untold self.old }
     {
         self.hall.drop_worker(number);
         self.hall.drop_client(number);
@@ -175,7 +180,7 @@ impl Routing {
         at: u64,
         outs: &mut Vec<Out>,
     ) -> Result<(), NoMemory>
-        ensures { OnOk result (Does self.new outs.old.items outs.new.items (ends lane number reason at self.old)) }
+        ensures { OnOk result (Does self.new outs.old.items outs.new.items (ends lane number reason at untold self.old)) }
     {
         self.remove(number);
         outs.push(Out::End(lane, reason, at))?;
@@ -184,7 +189,7 @@ impl Routing {
 
     /// Sends a piece, or ends the connection of a peer that is too slow.
     pub fn send(&mut self, number: u64, piece: Octets, outs: &mut Vec<Out>) -> Result<(), NoMemory>
-        ensures { OnOk result (Does self.new outs.old.items outs.new.items (sends number piece self.old)) }
+        ensures { OnOk result (Does self.new outs.old.items outs.new.items (sends number piece untold self.old)) }
     {
         let octets = piece.len() as u64;
         match connections::judge(&self.limits, &self.connections, number, octets) {
@@ -254,19 +259,18 @@ impl Routing {
 
     /// A copy of the request that this worker holds.
     pub fn held_by(&self, worker: u64) -> Result<Option<Request>, NoMemory>
-        ensures { IfOk result (λ request. request ≡ MessageStep.held_by worker self.now.held) }
+        ensures request { IfOk result (λ request. request ≡ Leaving.held_by worker self.now.held) }
+        ensures client { IfOk result (λ request. IfSome request (λ held. is_of_client held.origin ≡ true)) }
     {
         held::held_by(&self.held, worker)
     }
 
     /// Whether somebody waits for the service of this name or holds a request for it.
-    pub fn is_known(&self, name: &[u8]) -> bool
-        ensures { result ≡ MessageStep.is_known name.now self.now }
+    #[tactic(auto, using(crate::proofs::StorelessLemmas::or_false))]
+    pub fn is_known(&self, name: &Name) -> bool
+        ensures { result ≡ MessageStep.is_known untold (Some name.now) self.now }
     {
-        match Name::of(name) {
-            Some(name) => self.hall.has_worker(&name),
-            None => false,
-        }
+        self.hall.has_worker(name)
     }
 
     /// Appends the workers whose lease has ended, by number.
@@ -307,7 +311,8 @@ impl Routing {
         request: Request,
         outs: &mut Vec<Out>,
     ) -> Result<(), NoMemory>
-        ensures { OnOk result (Does self.new outs.old.items outs.new.items (queues lane number request self.old)) }
+        requires client { is_of_client request.origin ≡ true }
+        ensures { OnOk result (Does self.new outs.old.items outs.new.items (queues lane number request untold self.old)) }
     {
         match self.hall.ask(request) {
             Ok(()) => {
@@ -400,7 +405,7 @@ impl Routing {
 
     /// Sends requests to workers as long as a queued one has a waiting worker. Where none has, no memory is taken.
     pub fn settle(&mut self, alloc: Global, outs: &mut Vec<Out>) -> Result<(), NoMemory>
-        ensures done { OnOk result (Does self.new outs.old.items outs.new.items (settles self.old)) }
+        ensures done { OnOk result (Does (alone self.new) outs.old.items outs.new.items (settles (alone self.old))) }
         ensures settled { OnOk result (pair self.new.waiting self.new.queue ≡ None) }
         ensures idle { pair self.old.waiting self.old.queue ≡ None → IsOk result }
     {
@@ -411,7 +416,8 @@ impl Routing {
     }
 
     fn has_pair(&self) -> bool
-        ensures { result ≡ is_some (pair self.now.waiting self.now.queue) }
+        ensures pair { result ≡ is_some (pair self.now.waiting self.now.queue) }
+        ensures clients { OfClients self.now.queue }
     {
         self.hall.has_pair()
     }

@@ -2,8 +2,8 @@
 ghost use Rattle.std.specs.Prelude.{◌≡◌, ◌≤◌, [], IsOk, OnOk};
 ghost use Rattle.mj_machine.specs.TickStep.{all_beat, beats, due_numbers, leases_end, silent_numbers, ticks};
 ghost use Rattle.mj_queue.specs.Settling.{pair};
-ghost use Rattle.mj_routing.specs.RoutingState.{IsIdleAt};
-ghost use Rattle.mj_routing.specs.RoutingState.{Does};
+ghost use Rattle.mj_routing.specs.RoutingState.{Does, IsIdleAt};
+ghost use Rattle.mj_routing.specs.Storeless.{untold};
 
 use crate::routing::Routing;
 use crate::text::order_octets;
@@ -15,7 +15,7 @@ impl Routing {
     /// It is so many milliseconds since the start: leases end, and then heartbeats are sent.
     pub fn tick(&mut self, alloc: Global, ms: u64, outs: &mut Vec<Out>) -> Result<(), NoMemory>
         requires { ms ≤ 1000000000000000 }
-        ensures done { OnOk result (Does self.new outs.old.items outs.new.items (ticks ms self.old)) }
+        ensures done { OnOk result (Does self.new outs.old.items outs.new.items (ticks ms untold self.old)) }
         ensures idle { IsIdleAt ms self.old → IsOk result }
         ensures pair { IsIdleAt ms self.old → OnOk result (pair self.new.waiting self.new.queue ≡ pair self.old.waiting self.old.queue) }
     {
@@ -25,7 +25,7 @@ impl Routing {
     }
 
     fn end_leases(&mut self, alloc: Global) -> Result<(), NoMemory>
-        ensures done { OnOk result (self.new ≡ leases_end self.old) }
+        ensures done { OnOk result (self.new ≡ leases_end untold self.old) }
         ensures idle { due_numbers self.old ≡ [] → IsOk result }
     {
         let mut due = Vec::new(alloc);
@@ -37,7 +37,7 @@ impl Routing {
     }
 
     fn beat_all(&mut self, alloc: Global, outs: &mut Vec<Out>) -> Result<(), NoMemory>
-        ensures done { OnOk result (Does self.new outs.old.items outs.new.items (all_beat self.old)) }
+        ensures done { OnOk result (Does self.new outs.old.items outs.new.items (all_beat untold self.old)) }
         ensures idle { silent_numbers self.old ≡ [] → IsOk result }
     {
         if !self.has_silent() {
@@ -52,7 +52,7 @@ impl Routing {
     }
 
     fn beat(&mut self, alloc: Global, number: u64, outs: &mut Vec<Out>) -> Result<(), NoMemory>
-        ensures { OnOk result (Does self.new outs.old.items outs.new.items (beats number self.old)) }
+        ensures { OnOk result (Does self.new outs.old.items outs.new.items (beats number untold self.old)) }
     {
         let voice = self.voice_of(number);
         let piece = order_octets(alloc, voice, OrderAct::Heartbeat)?;
