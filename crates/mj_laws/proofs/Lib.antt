@@ -2,6 +2,8 @@ pub mod CountLemmas
 pub mod WorkerLemmas
 pub mod AskerLemmas
 pub mod ApartLemmas
+pub mod NoteLemmas
+pub mod StorelessLemmas
 pub mod SoundLemmas
 pub mod SettledLemmas
 pub mod HeldLemmas
@@ -13,6 +15,3 @@ pub mod ReadLemmas
 pub mod PutLemmas
 pub mod ReplyLemmas
 pub mod PairedLemmas
-pub mod AlikeLemmas
-pub mod AloneLemmas
-pub mod CutLemmas

@@ -3,7 +3,4 @@
 
 mod laws;
 
-pub use laws::{
-    cuts_change_nothing, nobody_waits_for_a_queued_service, numbers_and_lanes,
-    one_request_at_a_time, replies_reach_their_asker,
-};
+pub use laws::numbers_and_lanes;
