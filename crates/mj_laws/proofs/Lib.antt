@@ -15,3 +15,6 @@ pub mod ReadLemmas
 pub mod PutLemmas
 pub mod ReplyLemmas
 pub mod PairedLemmas
+pub mod AlikeLemmas
+pub mod AloneLemmas
+pub mod CutLemmas

@@ -6,7 +6,7 @@ use Rattle.mj_base.specs.declared.event.Out.TheVariants.{End, Note, Piece}
 use Rattle.mj_base.specs.declared.limits.Limits.{Limits}
 use Rattle.mj_worker_cmd.specs.declared.command.OrderAct.TheVariants as order
 use Rattle.mj_machine.specs.StoreState.{Store}
-use Rattle.mj_machine.specs.MachineState.{State, Whole, start_with}
+use Rattle.mj_machine.specs.MachineState.{Whole, start_with}
 use Rattle.mj_machine.specs.Pairing.{body_for}
 use Rattle.mj_machine.specs.EventStep.{Noted}
 use Rattle.mj_machine.specs.Connections.{connection_of, is_asking, voice_of}

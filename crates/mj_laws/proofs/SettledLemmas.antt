@@ -10,13 +10,12 @@ use Rattle.mj_queue.specs.declared.request.Request.{Request}
 use Rattle.mj_queue.specs.declared.worker.Waiter.{Waiter}
 use Rattle.mj_queue.proofs.LawLemmas.{some-pair}
 use Rattle.mj_machine.specs.StoreState.{Store, Told, told_by}
-use Rattle.mj_machine.specs.MachineState.{Machine, State, Whole, start}
-use Rattle.mj_machine.specs.Pairing.{settles}
+use Rattle.mj_machine.specs.MachineState.{State, Whole, start}
 use Rattle.mj_machine.specs.MessageStep.{message_step, said_in, says_by}
 use Rattle.mj_machine.specs.Connections.{connection_of}
 use Rattle.mj_machine.specs.EventStep.{Noted, effect, happening, state_after}
 use Rattle.mj_machine.specs.MachineState.{entered}
-use Rattle.mj_machine.specs.Leaving.{held_by, left}
+use Rattle.mj_machine.specs.Leaving.{left}
 use Rattle.mj_machine.specs.TickStep.{due_numbers}
 use Rattle.mj_machine.specs.MachineRun.{run_state}
 use Rattle.mj_machine.specs.Steps.{Cause, Expiry, IsAllowed, Item, Opening, Paired, acts, expiry_step, run_steps, step_of}

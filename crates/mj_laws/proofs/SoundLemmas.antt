@@ -1,21 +1,21 @@
 -- All parts of what holds at every moment, together.
-use Rattle.std.proofs.Common.{◌≡◌, ◌⊎◌, ℕ, Bool, true, false, List, [], ◌∷◌, refl, sym, ap, subst, inl, inr}
+use Rattle.std.proofs.Common.{◌≡◌, true, false, List, [], ◌∷◌, refl, sym, subst, inl, inr}
 use Rattle.std.specs.List.{AllByRecursion}
 use Rattle.mj_base.specs.declared.limits.Limits.{Limits}
 use Rattle.mj_queue.specs.Settling.{is_of_client}
 use Rattle.mj_queue.specs.declared.request.Origin.{Origin}
 use Rattle.mj_queue.specs.declared.request.Origin.TheVariants as origins
 use Rattle.mj_machine.specs.declared.connection.Connection.{Connection}
-use Rattle.mj_machine.specs.StoreState.{Store, no_store, opened_store, tickets_of, told_by, waiting_tickets}
-use Rattle.mj_machine.specs.MachineState.{Machine, State, Whole, start, start_state, start_with}
+use Rattle.mj_machine.specs.StoreState.{Store, no_store, opened_store, told_by}
+use Rattle.mj_machine.specs.MachineState.{Machine, State, start, start_with}
 use Rattle.mj_machine.specs.EventStep.{Noted, state_after}
 use Rattle.mj_machine.specs.MachineRun.{run_state}
-use Rattle.mj_machine.specs.Steps.{Cause, Step, run_steps}
+use Rattle.mj_machine.specs.Steps.{Cause, run_steps}
 use Rattle.mj_machine.proofs.Changes.{IsKept, both}
 use Rattle.mj_machine.proofs.ListLemmas.{all-both, all-map}
-use Rattle.mj_machine.proofs.StepWalk.{MayBegin, Of, OnBothSides, carried-on, stays-run, walked-kept}
+use Rattle.mj_machine.proofs.StepWalk.{MayBegin, carried-on, stays-run, walked-kept}
 use Rattle.mj_laws.specs.Soundness.{AskersAreThere, IsBegun, IsSound, IsThere, LanesAreApart, NumbersAreFresh, PiecesFit, ServicesAgree, StaysSound, WorkersStandOnce}
-use Rattle.mj_laws.specs.Storeless.{HasNoTickets, IsStoreless, StaysStoreless}
+use Rattle.mj_laws.specs.Storeless.{HasNoTickets}
 use Rattle.mj_laws.proofs.ApartLemmas.{IsFree, lane-vacated, lanes-kept, numbers-kept, pieces-kept}
 use Rattle.mj_laws.proofs.AskerLemmas.{askers-kept, there-tickets}
 use Rattle.mj_laws.proofs.StorelessLemmas.{storeless-run, storeless-start}

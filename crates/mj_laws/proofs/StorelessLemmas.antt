@@ -12,18 +12,18 @@ use Rattle.mj_queue.specs.declared.request.Request.{Request}
 use Rattle.mj_tickets.specs.declared.command.TicketCmd.{TicketCmd}
 use Rattle.mj_tickets.specs.Fold.{Ticket, known}
 use Rattle.mj_machine.specs.declared.held.Held.{Held}
-use Rattle.mj_machine.specs.StoreState.{Open, Shut, Store, Told, no_store, pends, tickets_of, told_by}
+use Rattle.mj_machine.specs.StoreState.{Shut, Store, Told, no_store, pends, tickets_of, told_by}
 use Rattle.mj_machine.specs.MachineState.{Machine, State, Whole, start}
-use Rattle.mj_machine.specs.Acts.{Doing, quiet}
-use Rattle.mj_machine.specs.Leaving.{comes_back, given_back, held_by, held_without, left}
+use Rattle.mj_machine.specs.Acts.{Doing}
+use Rattle.mj_machine.specs.Leaving.{comes_back, given_back, held_by, left}
 use Rattle.mj_machine.specs.DiskActs.{notes_in}
 use Rattle.mj_machine.specs.Pairing.{held_by_pair}
-use Rattle.mj_machine.specs.EventStep.{Happening, Noted, effect}
+use Rattle.mj_machine.specs.EventStep.{Noted}
 use Rattle.mj_machine.specs.MachineRun.{run_state}
-use Rattle.mj_machine.specs.Steps.{Cause, IsAllowed, Step, acts, run_steps, step_of}
+use Rattle.mj_machine.specs.Steps.{Cause, IsAllowed, acts, run_steps, step_of}
 use Rattle.mj_machine.proofs.Changes.{Accepting, Closing, IsCarried, IsDoubt, IsMade, IsRead, NoDoubt, ReadsReply, ReadsTicket, Remains, Storing, Tried}
 use Rattle.mj_machine.proofs.ListLemmas.{all-append, all-filter}
-use Rattle.mj_machine.proofs.StepWalk.{AnyLane, IsWalked, MayBegin, Of, carried-effect, stays-run, walked-by}
+use Rattle.mj_machine.proofs.StepWalk.{AnyLane, IsWalked, MayBegin, Of, stays-run, walked-by}
 use Rattle.mj_machine.proofs.Walk.{walk-acts}
 use Rattle.mj_laws.specs.Storeless.{HasNoTickets, IsStoreless, StaysStoreless}
 use Rattle.mj_laws.proofs.CountLemmas.{all-first}

@@ -1,5 +1,5 @@
 -- Reply ownership: replies reach their asker.
-use Rattle.std.specs.Prelude.{ℕ, ◌≡◌, ◌<◌, ◌^◌, ◌⊎◌, Bool, true, false, List, [], ◌∷◌, length, Some}
+use Rattle.std.specs.Prelude.{ℕ, ◌≡◌, ◌<◌, ◌^◌, ◌⊎◌, Bool, true, false, List, length, Some}
 use Rattle.std.specs.List.{AllByRecursion}
 use Rattle.mj_base.specs.ServiceName.{is_reserved}
 use Rattle.mj_base.specs.declared.event.Out.{Out}
