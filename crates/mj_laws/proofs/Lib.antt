@@ -18,3 +18,5 @@ pub mod PairedLemmas
 pub mod AlikeLemmas
 pub mod AloneLemmas
 pub mod CutLemmas
+pub mod CommandLemmas
+pub mod ShutLemmas
