@@ -1,10 +1,10 @@
 -- Readers of streams: where they stand, fed, added and dropped.
-use Rattle.std.proofs.Common.{◌≡◌, ◌≢◌, ◌⊎◌, ◌+◌, ◌<◌, ◌≤◌, ◌==◌, ◌++◌, ℕ, zero, suc, Bool, true, false, not, nat_lt, cond, List, [], ◌∷◌, length, get_or, take, slice_set, is_some, Option, None, Some, refl, sym, ap, subst, ◌∙◌, inl, inr, add-one, arith}
+use Rattle.std.proofs.Common.{◌≡◌, ◌≢◌, ◌⊎◌, ◌+◌, ◌<◌, ◌≤◌, ◌==◌, ◌++◌, ℕ, Bool, true, false, cond, List, [], ◌∷◌, length, get_or, take, slice_set, is_some, Option, None, Some, refl, sym, ap, subst, ◌∙◌, inl, inr, add-one}
 use Rattle.std.proofs.Math.Seq.{take-suc}
 use Rattle.std.proofs.lemmas.List.{take_all}
 use Rattle.std.specs.Option.{option_map, unwrap_or}
-use Rattle.std.specs.List.{find, position, position_or_len}
-use Rattle.std.proofs.lemmas.Bool.Decides.{eqb_tells, nat_tests}
+use Rattle.std.specs.List.{find, position}
+use Rattle.std.proofs.lemmas.Bool.Decides.{eqb_tells}
 use Rattle.std.proofs.lemmas.Option.{get_or_from_slice_get}
 use Rattle.mj_base.specs.declared.limits.Limits.{Limits}
 use Rattle.mj_wire.specs.StreamItems.{gained}
@@ -20,7 +20,7 @@ use Rattle.mj_machine.proofs.StreamLemmas.{fed-other, fed-same}
 use Rattle.mj_routing.specs.Keyed.{IsPlaceIn}
 use Rattle.mj_routing.proofs.KeyedLemmas.{place-in}
 use Rattle.mj_broker.specs.declared.wires.Link.{Link}
-use Rattle.mj_broker.specs.Wires.{AreFresh, IsLinkAt, IsLinkOf, MayBeFed, SameNumbers, WireStands, WiresStand, kept_links, rewired, stream_found, wire_of}
+use Rattle.mj_broker.specs.Wires.{AreFresh, IsLinkAt, MayBeFed, SameNumbers, WireStands, WiresStand, kept_links, rewired, stream_found, wire_of}
 
 abbrev test : ℕ → Link → Bool
 test n l = l.number == n

@@ -1,19 +1,21 @@
 -- When a broker stands for the machine.
-use Rattle.std.specs.Prelude.{ℕ, ◌≡◌, ⊤, Bool, List, [], ◌++◌, None}
+use Rattle.std.specs.Prelude.{ℕ, ◌≡◌, ⊤, Bool, List, ◌++◌, None}
 use Rattle.mj_base.specs.declared.limits.Limits.{Limits}
 use Rattle.mj_base.specs.declared.event.Event.{Event}
 use Rattle.mj_base.specs.declared.event.Event.TheVariants as events
 use Rattle.mj_base.specs.declared.event.Out.{Out}
 use Rattle.mj_queue.specs.Settling.{pair}
+use Rattle.mj_machine.specs.StoreState.{no_store}
 use Rattle.mj_machine.specs.MachineState.{Machine, State, Stream}
 use Rattle.mj_machine.specs.EventStep.{outs_of, state_after, streams_after}
+use Rattle.mj_machine.specs.MachineRun.{plain}
 use Rattle.mj_machine.specs.Connections.{connection_of}
 use Rattle.mj_machine.specs.declared.connection.Connection.{Connection}
 use Rattle.mj_routing.specs.RoutingState.{IsIdleAt}
 use Rattle.mj_broker.specs.declared.wires.Link.{Link}
 use Rattle.mj_broker.specs.Wires.{AreFresh, WiresStand, wire_of}
 
--- what contracts see of a broker: its limits, the machine's state but for the streams, the reader of each connection's
+-- what contracts see of a broker: its limits, what is routed, the reader of each connection's
 -- stream, and whether a fault has ended it
 pub record BrokerValue : Type 0 where
   pub limits : Limits
@@ -21,10 +23,11 @@ pub record BrokerValue : Type 0 where
   pub wires : List Link
   pub spent : Bool
 
--- the broker has these limits and this state, and each reader was fed the whole stream of its connection
+-- the broker has these limits and this state, and no store; and each reader was fed the whole stream of its connection
 pub record IsAt (limits : Limits) (broker : BrokerValue) (m : Machine) : Type 0 where
   pub limited : broker.limits ≡ limits
   pub state : broker.state ≡ m.state
+  pub store : m.store ≡ no_store
   pub streams : WiresStand limits broker.wires m.streams
 
 -- each connection has a reader that may be fed
@@ -48,10 +51,14 @@ IsIdle s (events.Close lane) = ⊤
 IsIdle s (events.Tick ms) = IsIdleAt ms s
 IsIdle s events.Stop = ⊤
 
+-- a machine without a store
+abbrev pub machine_at : State → List Stream → Machine
+machine_at state streams = record { state = state; store = no_store; streams = streams }
+
 -- an event took a state and the readers of its connections to those behind it, and added what the machine does
 abbrev pub IsStep : Limits → Event → State → State → List Link → List Link → List Out → List Out → Type 0
 IsStep limits event old now wires wires_now before after =
     (streams : List Stream) → WiresStand limits wires streams
-    → (now ≡ (state_after limits (record { state = old; streams = streams }) event).state)
-    × WiresStand limits wires_now (streams_after (record { state = old; streams = streams }) event)
-    × (after ≡ before ++ outs_of limits (record { state = old; streams = streams }) event)
+    → (machine_at now (streams_after (machine_at old streams) event) ≡ state_after limits (machine_at old streams) (plain event))
+    × WiresStand limits wires_now (streams_after (machine_at old streams) event)
+    × (after ≡ before ++ outs_of limits (machine_at old streams) (plain event))

@@ -1,5 +1,5 @@
 -- The readers of streams, by the connection's number.
-use Rattle.std.specs.Prelude.{ℕ, ◌≡◌, ◌==◌, ⊤, false, is_some, if◌then◌else◌, List, [], ◌∷◌, slice_get, slice_set, Option, None, Some}
+use Rattle.std.specs.Prelude.{ℕ, ◌≡◌, ◌==◌, ⊤, false, is_some, List, slice_get, slice_set, Option, None, Some}
 use Rattle.std.specs.Option.{option_map}
 use Rattle.std.specs.List.{filter, find}
 use Rattle.mj_base.specs.declared.limits.Limits.{Limits}

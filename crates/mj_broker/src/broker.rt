@@ -5,6 +5,7 @@ ghost use Rattle.mj_base.specs.declared.event.Event.TheVariants as AnEvent;
 ghost use Rattle.mj_queue.specs.Settling.{pair};
 ghost use Rattle.mj_machine.specs.MachineState.{Machine, Stream, start};
 ghost use Rattle.mj_machine.specs.EventStep.{outs_of, state_after};
+ghost use Rattle.mj_machine.specs.MachineRun.{plain};
 ghost use Rattle.mj_broker.specs.BrokerState.{AreReady, AreSettled, IsAt, IsIdle, IsStep};
 
 use crate::fault::EventFault;
@@ -37,7 +38,7 @@ impl Model for Broker {
 }
 
 impl Broker {
-    /// A broker with nobody connected.
+    /// A broker without a store, with nobody connected.
     pub fn new(alloc: Global, limits: &Limits) -> Result<Broker, NoMemory>
         ensures state { IfOk result (λ broker. IsAt limits.now broker (start limits.now)) }
         ensures limits { IfOk result (λ broker. broker.limits ≡ limits.now) }
@@ -65,9 +66,9 @@ impl Broker {
         // So many connections were never opened.
         requires few { self.old.state.next < 2 ^ 63 }
         ensures ok { OnOk result ((limits : LimitsOf) (m : Machine) → IsAt limits self.old m
-            → IsAt limits self.new (state_after limits m event)) }
+            → IsAt limits self.new (state_after limits m (plain event))) }
         ensures outs { OnOk result ((limits : LimitsOf) (m : Machine) → IsAt limits self.old m
-            → outs.new.items ≡ outs.old.items ++ outs_of limits m event) }
+            → outs.new.items ≡ outs.old.items ++ outs_of limits m (plain event)) }
 
         // An earlier fault, and nothing else, is answered by `Spent`.
         ensures spent { (result ≡ Err EventFault.Spent) ↔ (self.old.spent ≡ true) }

@@ -5,8 +5,8 @@ ghost use Rattle.mj_machine.specs.Acts.{each, quiet};
 ghost use Rattle.mj_machine.specs.Connections.{number_on};
 ghost use Rattle.mj_machine.specs.EventStep.{Closes, Gains, Opens, Reports, Ticks, closes, gains, happens, item_step, opens, reports};
 ghost use Rattle.mj_wire.specs.declared.item.WireItem;
-ghost use Rattle.mj_routing.specs.RoutingState.{IsIdleAt};
-ghost use Rattle.mj_routing.specs.RoutingState.{Does};
+ghost use Rattle.mj_routing.specs.RoutingState.{Does, IsIdleAt};
+ghost use Rattle.mj_routing.specs.Storeless.{alone, untold};
 
 use crate::message;
 use mj_base::{NoMemory, Octets, Out};
@@ -24,7 +24,7 @@ pub fn open(
     outs: &mut Vec<Out>,
 ) -> Result<(), NoMemory>
     requires { routing.old.next < 2 ^ 63 }
-    ensures done { OnOk result (Does routing.new outs.old.items outs.new.items (happens (Opens lane) routing.old)) }
+    ensures done { OnOk result (Does (alone routing.new) outs.old.items outs.new.items (happens (Opens lane) (alone routing.old))) }
     ensures settled { OnOk result (pair routing.new.waiting routing.new.queue ≡ None) }
 {
     close_on(routing, lane);
@@ -39,7 +39,7 @@ fn greet(
     outs: &mut Vec<Out>,
 ) -> Result<(), NoMemory>
     requires { routing.old.next < 2 ^ 63 }
-    ensures { OnOk result (Does routing.new outs.old.items outs.new.items (opens lane routing.old)) }
+    ensures { OnOk result (Does routing.new outs.old.items outs.new.items (opens lane untold routing.old)) }
 {
     let number = routing.add(alloc, lane)?;
     let mut piece = Octets::new(alloc);
@@ -55,7 +55,7 @@ pub fn gain(
     items: &[WireItem],
     outs: &mut Vec<Out>,
 ) -> Result<(), NoMemory>
-    ensures done { OnOk result (Does routing.new outs.old.items outs.new.items (happens (Gains lane items.now) routing.old)) }
+    ensures done { OnOk result (Does (alone routing.new) outs.old.items outs.new.items (happens (Gains lane items.now) (alone routing.old))) }
     ensures settled { OnOk result (pair routing.new.waiting routing.new.queue ≡ None) }
 {
     take_items(alloc, routing, lane, items, outs)?;
@@ -69,7 +69,7 @@ fn take_items(
     items: &[WireItem],
     outs: &mut Vec<Out>,
 ) -> Result<(), NoMemory>
-    ensures { OnOk result (Does routing.new outs.old.items outs.new.items (gains (number_on lane routing.old.connections) items.now routing.old)) }
+    ensures { OnOk result (Does (alone routing.new) outs.old.items outs.new.items (gains (number_on lane routing.old.connections) items.now (alone routing.old))) }
 {
     match routing.number_on(lane) {
         None => Ok(()),
@@ -84,7 +84,7 @@ fn take_all(
     items: &[WireItem],
     outs: &mut Vec<Out>,
 ) -> Result<(), NoMemory>
-    ensures { OnOk result (Does routing.new outs.old.items outs.new.items (each (item_step number) items.now routing.old)) }
+    ensures { OnOk result (Does (alone routing.new) outs.old.items outs.new.items (each (item_step number) items.now (alone routing.old))) }
 {
     for item in items {
         take_item(alloc, routing, number, item, outs)?;
@@ -99,7 +99,7 @@ fn take_item(
     item: &WireItem,
     outs: &mut Vec<Out>,
 ) -> Result<(), NoMemory>
-    ensures { OnOk result (Does routing.new outs.old.items outs.new.items (item_step number item.now routing.old)) }
+    ensures { OnOk result (Does (alone routing.new) outs.old.items outs.new.items (item_step number item.now (alone routing.old))) }
 {
     match item {
         WireItem::Accepted => send_ready(alloc, routing, number, outs),
@@ -118,7 +118,7 @@ fn send_ready(
     number: u64,
     outs: &mut Vec<Out>,
 ) -> Result<(), NoMemory>
-    ensures { OnOk result (Does routing.new outs.old.items outs.new.items (item_step number WireItem.Accepted routing.old)) }
+    ensures { OnOk result (Does (alone routing.new) outs.old.items outs.new.items (item_step number WireItem.Accepted (alone routing.old))) }
 {
     let mut piece = Octets::new(alloc);
     write_ready(SocketType::Router, &mut piece)?;
@@ -132,7 +132,7 @@ pub fn report(
     lane: u32,
     outs: &mut Vec<Out>,
 ) -> Result<(), NoMemory>
-    ensures done { OnOk result (Does routing.new outs.old.items outs.new.items (happens (Reports lane) routing.old)) }
+    ensures done { OnOk result (Does (alone routing.new) outs.old.items outs.new.items (happens (Reports lane) (alone routing.old))) }
     ensures idle { pair routing.old.waiting routing.old.queue ≡ None → IsOk result }
     ensures settled { OnOk result (pair routing.new.waiting routing.new.queue ≡ None) }
 {
@@ -156,7 +156,7 @@ pub fn close(
     lane: u32,
     outs: &mut Vec<Out>,
 ) -> Result<(), NoMemory>
-    ensures done { OnOk result (Does routing.new outs.old.items outs.new.items (happens (Closes lane) routing.old)) }
+    ensures done { OnOk result (Does (alone routing.new) outs.old.items outs.new.items (happens (Closes lane) (alone routing.old))) }
     ensures idle { pair routing.old.waiting routing.old.queue ≡ None → IsOk result }
     ensures settled { OnOk result (pair routing.new.waiting routing.new.queue ≡ None) }
 {
@@ -166,7 +166,7 @@ pub fn close(
 
 fn close_on(routing: &mut Routing, lane: u32)
     ensures pair { pair routing.old.waiting routing.old.queue ≡ None → pair routing.new.waiting routing.new.queue ≡ None }
-    ensures state { routing.new ≡ closes (number_on lane routing.old.connections) routing.old }
+    ensures state { routing.new ≡ closes (number_on lane routing.old.connections) untold routing.old }
     ensures next { routing.new.next ≡ routing.old.next }
 {
     if let Some(number) = routing.number_on(lane) {
@@ -182,7 +182,7 @@ pub fn pass(
     outs: &mut Vec<Out>,
 ) -> Result<(), NoMemory>
     requires { ms ≤ 1000000000000000 }
-    ensures done { OnOk result (Does routing.new outs.old.items outs.new.items (happens (Ticks ms) routing.old)) }
+    ensures done { OnOk result (Does (alone routing.new) outs.old.items outs.new.items (happens (Ticks ms) (alone routing.old))) }
     ensures idle { pair routing.old.waiting routing.old.queue ≡ None → IsIdleAt ms routing.old → IsOk result }
     ensures settled { OnOk result (pair routing.new.waiting routing.new.queue ≡ None) }
 {

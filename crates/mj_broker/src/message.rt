@@ -1,18 +1,22 @@
 //! What one message does, row by row (ZeroMQ RFC 7; RFC 8 for names that begin with `mmi.`).
-ghost use Rattle.std.specs.Prelude.{◌≡◌, ℕ, OnOk, IfOk, if◌then◌else◌, codes};
-ghost use Rattle.std.specs.Str.{bytes_eq};
+ghost use Rattle.std.specs.Prelude.{◌≡◌, ℕ, List, true, IsSome, OnOk, IfOk};
+ghost use Rattle.mj_base.specs.declared.event.Out.{Out as AnOut};
+ghost use Rattle.mj_mmi.specs.Asking;
+ghost use Rattle.mj_queue.specs.Settling.{is_of_client};
 ghost use Rattle.mj_machine.specs.Acts.{quiet};
-ghost use Rattle.mj_machine.specs.Leaving.{goes};
+ghost use Rattle.mj_machine.specs.Leaving.{goes, held_by};
 ghost use Rattle.mj_machine.specs.MessageStep;
-ghost use Rattle.mj_machine.specs.MessageStep.{answers, asks, begins, last_frame, delivers, held_by, message_step, mmi_code, registers, replied, request_of, rests, says, says_by, strays, works, works_on};
+ghost use Rattle.mj_machine.specs.MessageStep.{answers_itself, asks, begins, delivers, message_step, registers, replied, request_of, rests, says, says_by, strays, works, works_on};
 ghost use Rattle.mj_machine.specs.Connections.{connection_of, worker_voice};
 ghost use Rattle.mj_machine.specs.declared.connection.Role;
 ghost use Rattle.mj_routing.specs.RoutingState.{Does};
 ghost use Rattle.mj_routing.specs.Rows.{ends_it};
+ghost use Rattle.mj_routing.specs.Storeless.{alone, untold};
 
 use mj_base::{Frames, Name, NoMemory, Octets, Out, Version};
 use mj_client_cmd::ClientCmd;
 use mj_machine::{Registration, Role, Said, Voice};
+use mj_mmi::asked;
 use mj_queue::{Origin, Request};
 use mj_routing::{Routing, Standing, is_address, order_octets, read_message, reply_octets};
 use mj_worker_cmd::{OrderAct, WorkerAct, WorkerCmd};
@@ -26,7 +30,7 @@ pub fn message(
     message: &Frames,
     outs: &mut Vec<Out>,
 ) -> Result<(), NoMemory>
-    ensures { OnOk result (Does routing.new outs.old.items outs.new.items (message_step number message.now routing.old)) }
+    ensures { OnOk result (Does (alone routing.new) outs.old.items outs.new.items (message_step number message.now (alone routing.old))) }
 {
     let said = read_message(alloc, message)?;
     say(alloc, routing, number, said, outs)?;
@@ -40,7 +44,7 @@ fn say(
     said: Said,
     outs: &mut Vec<Out>,
 ) -> Result<(), NoMemory>
-    ensures { OnOk result (Does routing.new outs.old.items outs.new.items (says_by number (connection_of number routing.old.connections) said routing.old)) }
+    ensures { OnOk result (Does (alone routing.new) outs.old.items outs.new.items (says_by number (connection_of number routing.old.connections) said (alone routing.old))) }
 {
     match routing.look_up(number) {
         None => Ok(()),
@@ -56,7 +60,7 @@ fn say_as(
     said: Said,
     outs: &mut Vec<Out>,
 ) -> Result<(), NoMemory>
-    ensures { OnOk result (Does routing.new outs.old.items outs.new.items (says standing.lane number standing.role said routing.old)) }
+    ensures { OnOk result (Does (alone routing.new) outs.old.items outs.new.items (says standing.lane number standing.role said (alone routing.old))) }
 {
     let lane = standing.lane;
     let role = standing.role;
@@ -76,7 +80,7 @@ fn say_fresh(
     said: Said,
     outs: &mut Vec<Out>,
 ) -> Result<(), NoMemory>
-    ensures { OnOk result (Does routing.new outs.old.items outs.new.items (says lane number Role.Fresh said routing.old)) }
+    ensures { OnOk result (Does (alone routing.new) outs.old.items outs.new.items (says lane number Role.Fresh said (alone routing.old))) }
 {
     match said {
         Said::Neither => {
@@ -96,7 +100,7 @@ fn say_client(
     said: Said,
     outs: &mut Vec<Out>,
 ) -> Result<(), NoMemory>
-    ensures { OnOk result (Does routing.new outs.old.items outs.new.items (says lane number Role.Client said routing.old)) }
+    ensures { OnOk result (Does (alone routing.new) outs.old.items outs.new.items (says lane number Role.Client said (alone routing.old))) }
 {
     match said {
         Said::Neither => {
@@ -116,7 +120,7 @@ fn say_worker(
     said: Said,
     outs: &mut Vec<Out>,
 ) -> Result<(), NoMemory>
-    ensures { OnOk result ((lane : ℕ) → Does routing.new outs.old.items outs.new.items (says lane number (Role.Worker registration) said routing.old)) }
+    ensures { OnOk result ((lane : ℕ) → Does (alone routing.new) outs.old.items outs.new.items (says lane number (Role.Worker registration) said (alone routing.old))) }
 {
     match said {
         Said::Neither => {
@@ -136,7 +140,7 @@ fn refuse(
     voice: Voice,
     outs: &mut Vec<Out>,
 ) -> Result<(), NoMemory>
-    ensures { OnOk result (Does routing.new outs.old.items outs.new.items (MessageStep.unexpected number voice routing.old)) }
+    ensures { OnOk result (Does routing.new outs.old.items outs.new.items (MessageStep.unexpected number voice untold routing.old)) }
 {
     routing.go(number);
     let piece = order_octets(alloc, voice, OrderAct::Disconnect)?;
@@ -152,7 +156,8 @@ fn ask(
     request: Request,
     outs: &mut Vec<Out>,
 ) -> Result<(), NoMemory>
-    ensures { OnOk result (Does routing.new outs.old.items outs.new.items (asks lane number request routing.old)) }
+    requires { is_of_client request.origin ≡ true }
+    ensures { OnOk result (Does (alone routing.new) outs.old.items outs.new.items (asks lane number request (alone routing.old))) }
 {
     if request.service.reserved(false) {
         answer(alloc, routing, number, &request, outs)
@@ -169,25 +174,21 @@ fn answer(
     request: &Request,
     outs: &mut Vec<Out>,
 ) -> Result<(), NoMemory>
-    ensures { OnOk result (Does routing.new outs.old.items outs.new.items (answers number request.now routing.old)) }
+    ensures { OnOk result (Does routing.new outs.old.items outs.new.items (answers_itself number request.now untold routing.old)) }
 {
-    let known = knows_last(routing, &request.body);
+    let known = knows(routing, &request.body);
     routing.set_client(number);
-    let mut body = Frames::new(alloc);
-    body.push(code_of(&request.service, known))?;
+    let body = mj_mmi::answer(alloc, &request.service, known)?;
     let piece = reply_octets(alloc, true, request, body)?;
     routing.send(number, piece, outs)
 }
 
-/// Whether the last frame names a service that somebody serves.
-fn knows_last(routing: &Routing, body: &Frames) -> bool
-    ensures { result ≡ MessageStep.is_known (last_frame body.now) routing.now }
+/// Whether the name that is asked for is of a service that somebody serves.
+fn knows(routing: &Routing, body: &Frames) -> bool
+    ensures { result ≡ MessageStep.is_known untold (Asking.asked body.now) routing.now }
 {
-    if body.is_empty() {
-        return false;
-    }
-    match body.get(body.len() - 1) {
-        Some(name) => routing.is_known(name),
+    match asked(body) {
+        Some(name) => routing.is_known(&name),
         None => false,
     }
 }
@@ -201,7 +202,7 @@ fn begin(
     act: WorkerAct,
     outs: &mut Vec<Out>,
 ) -> Result<(), NoMemory>
-    ensures { OnOk result (Does routing.new outs.old.items outs.new.items (begins number voice act routing.old)) }
+    ensures { OnOk result (Does routing.new outs.old.items outs.new.items (begins number voice act untold routing.old)) }
 {
     match act {
         WorkerAct::Ready(service) => enlist(alloc, routing, number, voice, &service, outs),
@@ -227,7 +228,7 @@ fn enlist(
     service: &Name,
     outs: &mut Vec<Out>,
 ) -> Result<(), NoMemory>
-    ensures { OnOk result (Does routing.new outs.old.items outs.new.items (registers number voice service.now routing.old)) }
+    ensures { OnOk result (Does routing.new outs.old.items outs.new.items (registers number voice service.now untold routing.old)) }
 {
     if service.reserved(false) {
         refuse(alloc, routing, number, voice, outs)
@@ -245,7 +246,7 @@ fn stray(
     act: &WorkerAct,
     outs: &mut Vec<Out>,
 ) -> Result<(), NoMemory>
-    ensures { OnOk result (Does routing.new outs.old.items outs.new.items (strays number voice act.now routing.old)) }
+    ensures { OnOk result (Does routing.new outs.old.items outs.new.items (strays number voice act.now untold routing.old)) }
 {
     if is_disconnect(act) {
         routing.go(number);
@@ -264,7 +265,7 @@ fn work(
     cmd: WorkerCmd,
     outs: &mut Vec<Out>,
 ) -> Result<(), NoMemory>
-    ensures { OnOk result (Does routing.new outs.old.items outs.new.items (works number registration cmd routing.old)) }
+    ensures { OnOk result (Does (alone routing.new) outs.old.items outs.new.items (works number registration cmd (alone routing.old))) }
 {
     if is_same_version(cmd.version, registration.version) {
         work_on(alloc, routing, number, registration, cmd.act, outs)
@@ -289,7 +290,7 @@ fn work_on(
     act: WorkerAct,
     outs: &mut Vec<Out>,
 ) -> Result<(), NoMemory>
-    ensures { OnOk result (Does routing.new outs.old.items outs.new.items (works_on number registration act routing.old)) }
+    ensures { OnOk result (Does (alone routing.new) outs.old.items outs.new.items (works_on number registration act (alone routing.old))) }
 {
     match act {
         WorkerAct::Heartbeat => routing.mark(number),
@@ -328,7 +329,7 @@ fn reply(
     body: Frames,
     outs: &mut Vec<Out>,
 ) -> Result<(), NoMemory>
-    ensures { OnOk result (Does routing.new outs.old.items outs.new.items (replied number registration last address body (held_by number routing.old.held) routing.old)) }
+    ensures { OnOk result (Does (alone routing.new) outs.old.items outs.new.items (replied number registration last address body (held_by number routing.old.held) (alone routing.old))) }
 {
     let Some(request) = routing.held_by(number)? else {
         return refuse(alloc, routing, number, voice_at(&registration), outs);
@@ -350,7 +351,8 @@ fn deliver(
     body: Frames,
     outs: &mut Vec<Out>,
 ) -> Result<(), NoMemory>
-    ensures { OnOk result (Does routing.new outs.old.items outs.new.items (delivers last request body routing.old)) }
+    requires { is_of_client request.origin ≡ true }
+    ensures { OnOk result (Does (alone routing.new) outs.old.items outs.new.items (delivers last request body (alone routing.old))) }
 {
     match request.origin {
         Origin::Client(client) => {
@@ -361,13 +363,14 @@ fn deliver(
                 Ok(())
             }
         }
-        Origin::Ticket(_ticket) => Ok(()),
+        // Without a store nobody holds a ticket's request.
+        Origin::Ticket(_ticket) => unreachable!(),
     }
 }
 
 /// Behind a final reply the worker waits again.
 fn rest(routing: &mut Routing, last: bool, number: u64, service: &Name) -> Result<(), NoMemory>
-    ensures { OnOk result (routing.new ≡ rests last number service.now routing.old) }
+    ensures { OnOk result ((outs : List AnOut) → Does routing.new outs outs (rests last number service.now untold routing.old)) }
 {
     if last {
         routing.wait(number, service)
@@ -432,24 +435,3 @@ fn is_two(version: Version) -> bool
         Version::Two => true,
     }
 }
-
-/// The code of an answer (ZeroMQ RFC 8).
-fn code_of(service: &Name, known: bool) -> &'static [u8]
-    ensures { result.now ≡ (if bytes_eq service.now (codes "mmi.service") then (if known then codes "200" else codes "404") else codes "501") }
-{
-    if service.as_slice() != SERVICE {
-        NOT_IMPLEMENTED
-    } else if known {
-        FOUND
-    } else {
-        NOT_FOUND
-    }
-}
-
-const SERVICE: &[u8] = b"mmi.service";
-
-const FOUND: &[u8] = b"200";
-
-const NOT_FOUND: &[u8] = b"404";
-
-const NOT_IMPLEMENTED: &[u8] = b"501";

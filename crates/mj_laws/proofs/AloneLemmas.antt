@@ -14,7 +14,7 @@ use Rattle.mj_machine.specs.Steps.{Cause}
 use Rattle.mj_machine.proofs.ConnectionLemmas.{agrees, differs, equal, found-number}
 use Rattle.mj_machine.proofs.ListLemmas.{all-filter, all-map}
 use Rattle.mj_machine.proofs.StepWalk.{MayBegin}
-use Rattle.mj_machine.proofs.Walk.{IsKept}
+use Rattle.mj_machine.proofs.Changes.{IsKept}
 use Rattle.mj_laws.specs.Soundness.{IsApart}
 use Rattle.mj_laws.proofs.ApartLemmas.{all-changed}
 
@@ -85,14 +85,19 @@ alone-kept lane n cause s0 never = record {
   keeps_marked = λ q s p. all-changed (IsIts lane n) q (mark_set s.now) (λ c e. e) s.connections p;
   keeps_sent = λ q octets c s is slow p. all-changed (IsIts lane n) q (sent s.now octets) (λ c e. e) s.connections p;
   keeps_reported = λ q s p. all-changed (IsIts lane n) q delivered (λ c e. e) s.connections p;
-  keeps_removed = λ q s p. all-filter _ _ s.connections p;
-  keeps_gone = λ q s p. all-changed (IsIts lane n) q (with_role Gone) (λ c e. e) s.connections p;
-  keeps_expired = λ q s is p. all-changed (IsIts lane n) q (with_role Fresh) (λ c e. e) s.connections p;
+  keeps_removed = λ q told s p. all-filter _ _ s.connections p;
+  keeps_gone = λ q told s p. all-changed (IsIts lane n) q (with_role Gone) (λ c e. e) s.connections p;
+  keeps_expired = λ q told s is p. all-changed (IsIts lane n) q (with_role Fresh) (λ c e. e) s.connections p;
   keeps_asking = λ q c is plain p. all-changed (IsIts lane n) q (with_role Client) (λ c e. e) s0.connections p;
   keeps_queued = λ q c message request told is origin p. p;
   keeps_registered = λ q c message voice service told is fresh p. all-changed (IsIts lane n) q (with_role (Worker (registration voice service s0))) (λ c e. e) s0.connections p;
   keeps_rested = λ q service s final serves p. p;
   keeps_given = λ q by is p. p;
+  keeps_passed = λ q by is p. p;
   keeps_opened = λ other is p. absurd (never other is);
   keeps_time = λ ms s p. p;
+  keeps_emptied = λ s p. p;
+  keeps_refilled = λ store s p. p;
+  keeps_submitted = λ number service s p. p;
+  keeps_dropped = λ number s p. p;
 }

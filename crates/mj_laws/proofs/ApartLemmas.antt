@@ -7,6 +7,7 @@ use Rattle.std.proofs.lemmas.List.Sums.{sum_by-append, sum_by-take-drop}
 use Rattle.mj_base.specs.declared.limits.Limits.{Limits}
 use Rattle.mj_machine.specs.declared.connection.Connection.{Connection}
 use Rattle.mj_machine.specs.declared.connection.Role.TheVariants.{Fresh, Gone}
+use Rattle.mj_machine.specs.StoreState.{Told}
 use Rattle.mj_machine.specs.MachineState.{State}
 use Rattle.mj_machine.specs.Connections.{changed, connection_of, connection_on, number_on, with_role}
 use Rattle.mj_machine.specs.Leaving.{connections_without, removed}
@@ -18,7 +19,7 @@ use Rattle.mj_machine.proofs.ConnectionLemmas.{Keeps, agrees, equal}
 use Rattle.mj_machine.proofs.StepWalk.{MayBegin}
 use Rattle.mj_laws.specs.Soundness.{IsApart, LanesAreApart, NumbersAreFresh, PiecesFit}
 use Rattle.mj_machine.proofs.ListLemmas.{all-append, all-filter, all-map}
-use Rattle.mj_machine.proofs.Walk.{IsKept}
+use Rattle.mj_machine.proofs.Changes.{IsKept}
 
 -- ---- lists of connections
 
@@ -68,8 +69,8 @@ numbers-changed n f keeps s fresh = (
   apart-changed (λ c. c.number) n f keeps s.connections fresh.1,
 )
 
-numbers-without : (n : ℕ) (s : State) → NumbersAreFresh s → NumbersAreFresh (removed n s)
-numbers-without n s fresh = (all-filter _ _ s.connections fresh.0, apart-filter (λ c. c.number) _ s.connections fresh.1)
+numbers-without : (n : ℕ) (told : Told) (s : State) → NumbersAreFresh s → NumbersAreFresh (removed n told s)
+numbers-without n told s fresh = (all-filter _ _ s.connections fresh.0, apart-filter (λ c. c.number) _ s.connections fresh.1)
 
 numbers-opened : (lane : ℕ) (s : State) → NumbersAreFresh s → NumbersAreFresh (opened lane s)
 numbers-opened lane s fresh = (
@@ -82,16 +83,21 @@ numbers-kept cause s0 = record {
   keeps_marked = λ q s p. numbers-changed q (mark_set s.now) (λ c. refl) s p;
   keeps_sent = λ q octets c s is slow p. numbers-changed q (sent s.now octets) (λ d. refl) s p;
   keeps_reported = λ q s p. numbers-changed q delivered (λ c. refl) s p;
-  keeps_removed = λ q s p. numbers-without q s p;
-  keeps_gone = λ q s p. numbers-changed q (with_role Gone) (λ c. refl) s p;
-  keeps_expired = λ q s is p. numbers-changed q (with_role Fresh) (λ c. refl) s p;
+  keeps_removed = λ q told s p. numbers-without q told s p;
+  keeps_gone = λ q told s p. numbers-changed q (with_role Gone) (λ c. refl) s p;
+  keeps_expired = λ q told s is p. numbers-changed q (with_role Fresh) (λ c. refl) s p;
   keeps_asking = λ q c is plain p. numbers-changed q (with_role _) (λ d. refl) s0 p;
   keeps_queued = λ q c message request told is origin p. p;
   keeps_registered = λ q c message voice service told is fresh p. numbers-changed q (with_role _) (λ d. refl) s0 p;
   keeps_rested = λ q service s final works p. p;
   keeps_given = λ p by is all. all;
+  keeps_passed = λ p by is all. all;
   keeps_opened = λ lane is p. numbers-opened lane s0 p;
   keeps_time = λ ms s p. p;
+  keeps_emptied = λ s p. p;
+  keeps_refilled = λ store s p. p;
+  keeps_submitted = λ number service s p. p;
+  keeps_dropped = λ number s p. p;
 }
 
 -- ---- lanes
@@ -156,30 +162,35 @@ on-cut lane c (d ∷ cs) is apart = by (d.lane == lane) refl is (on-cut lane c c
     by true e found rest = here (same-some d c found) (agrees d.lane lane e)
     by false e found rest = there (d.number == c.number) (λ same. cc (e, ap (λ (x : ℕ). x == lane) same ∙ equal lane)) (rest found apart.1)
 
-vacated : (s : State) (o : Option Connection) (lane : ℕ) → connection_on lane s.connections ≡ o → LanesAreApart s
-    → AllByRecursion (λ d. d.lane ≢ lane) (closes (option_map (λ c. c.number) o) s).connections
-vacated s None lane is apart = on-none lane s.connections is
-vacated s (Some c) lane is apart = on-cut lane c s.connections is apart
+vacated : (told : Told) (s : State) (o : Option Connection) (lane : ℕ) → connection_on lane s.connections ≡ o → LanesAreApart s
+    → AllByRecursion (λ d. d.lane ≢ lane) (closes (option_map (λ c. c.number) o) told s).connections
+vacated told s None lane is apart = on-none lane s.connections is
+vacated told s (Some c) lane is apart = on-cut lane c s.connections is apart
 
-pub lane-vacated : (s : State) → LanesAreApart s → (lane : ℕ) → IsFree (closes (number_on lane s.connections) s) lane
-lane-vacated s apart lane =
-    ap (λ (o : Option Connection). option_map (λ c. c.number) o) (none-on lane (closes (number_on lane s.connections) s).connections (vacated s (connection_on lane s.connections) lane refl apart))
+pub lane-vacated : (told : Told) (s : State) → LanesAreApart s → (lane : ℕ) → IsFree (closes (number_on lane s.connections) told s) lane
+lane-vacated told s apart lane =
+    ap (λ (o : Option Connection). option_map (λ c. c.number) o) (none-on lane (closes (number_on lane s.connections) told s).connections (vacated told s (connection_on lane s.connections) lane refl apart))
 
 pub lanes-kept : (cause : Cause) (s0 : State) → MayBegin IsFree cause s0 → IsKept cause s0 LanesAreApart
 lanes-kept cause s0 free = record {
   keeps_marked = λ q s p. lanes-changed q (mark_set s.now) (λ c. refl) s p;
   keeps_sent = λ q octets c s is slow p. lanes-changed q (sent s.now octets) (λ d. refl) s p;
   keeps_reported = λ q s p. lanes-changed q delivered (λ c. refl) s p;
-  keeps_removed = λ q s p. apart-filter (λ c. c.lane) _ s.connections p;
-  keeps_gone = λ q s p. lanes-changed q (with_role Gone) (λ c. refl) s p;
-  keeps_expired = λ q s is p. lanes-changed q (with_role Fresh) (λ c. refl) s p;
+  keeps_removed = λ q told s p. apart-filter (λ c. c.lane) _ s.connections p;
+  keeps_gone = λ q told s p. lanes-changed q (with_role Gone) (λ c. refl) s p;
+  keeps_expired = λ q told s is p. lanes-changed q (with_role Fresh) (λ c. refl) s p;
   keeps_asking = λ q c is plain p. lanes-changed q (with_role _) (λ d. refl) s0 p;
   keeps_queued = λ q c message request told is origin p. p;
   keeps_registered = λ q c message voice service told is fresh p. lanes-changed q (with_role _) (λ d. refl) s0 p;
   keeps_rested = λ q service s final works p. p;
   keeps_given = λ p by is all. all;
+  keeps_passed = λ p by is all. all;
   keeps_opened = λ lane is p. apart-added (λ c. c.lane) s0.connections _ p (free-lane lane s0 (free lane is));
   keeps_time = λ ms s p. p;
+  keeps_emptied = λ s p. p;
+  keeps_refilled = λ store s p. p;
+  keeps_submitted = λ number service s p. p;
+  keeps_dropped = λ number s p. p;
 }
 
 -- ---- pieces
@@ -240,14 +251,19 @@ module _ (limits : Limits) where
     keeps_marked = λ q s p. pieces-same q (mark_set s.now) (λ c. refl) s p;
     keeps_sent = λ q octets c s is slow p. pieces-sent q octets c s is slow p;
     keeps_reported = λ q s p. (p.0, all-changed (Fits limits) q delivered (λ c fits. fits-delivered limits c fits) s.connections p.1);
-    keeps_removed = λ q s p. (p.0, all-filter (Fits limits) _ s.connections p.1);
-    keeps_gone = λ q s p. pieces-same q (with_role Gone) (λ c. refl) s p;
-    keeps_expired = λ q s is p. pieces-same q (with_role Fresh) (λ c. refl) s p;
+    keeps_removed = λ q told s p. (p.0, all-filter (Fits limits) _ s.connections p.1);
+    keeps_gone = λ q told s p. pieces-same q (with_role Gone) (λ c. refl) s p;
+    keeps_expired = λ q told s is p. pieces-same q (with_role Fresh) (λ c. refl) s p;
     keeps_asking = λ q c is plain p. pieces-same q (with_role _) (λ d. refl) s0 p;
     keeps_queued = λ q c message request told is origin p. p;
     keeps_registered = λ q c message voice service told is fresh p. pieces-same q (with_role _) (λ d. refl) s0 p;
     keeps_rested = λ q service s final works p. p;
     keeps_given = λ p by is all. all;
+    keeps_passed = λ p by is all. all;
     keeps_opened = λ lane is p. (p.0, all-append (Fits limits) s0.connections _ p.1 ((omega arith, omega arith), tt));
     keeps_time = λ ms s p. p;
+    keeps_emptied = λ s p. p;
+    keeps_refilled = λ store s p. p;
+    keeps_submitted = λ number service s p. p;
+    keeps_dropped = λ number s p. p;
   }

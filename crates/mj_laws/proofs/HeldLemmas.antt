@@ -10,10 +10,10 @@ use Rattle.mj_machine.specs.declared.held.Held.{Held}
 use Rattle.mj_machine.specs.declared.said.Said.{Said}
 use Rattle.mj_machine.specs.MachineState.{State}
 use Rattle.mj_machine.specs.Connections.{connection_of, service_in, service_of}
-use Rattle.mj_machine.specs.Leaving.{held_without}
-use Rattle.mj_machine.specs.MessageStep.{held_by, same_version}
+use Rattle.mj_machine.specs.Leaving.{held_by, held_without}
+use Rattle.mj_machine.specs.MessageStep.{same_version}
 use Rattle.mj_machine.proofs.ConnectionLemmas.{agrees, equal, find-without-other}
-use Rattle.mj_machine.proofs.Walk.{IsReplyOf}
+use Rattle.mj_machine.proofs.Changes.{IsReplyOf}
 use Rattle.mj_laws.specs.Requests.{Replies}
 use Rattle.mj_laws.specs.Soundness.{ServicesAgree, holdings, one_if}
 

@@ -1,23 +1,24 @@
 -- A lease ends only once it has passed.
 use Rattle.std.proofs.Common.{◌≡◌, ◌≢◌, ◌+◌, ◌==◌, ℕ, Bool, true, false, cond, List, [], ◌∷◌, Option, Some, refl, sym, ap, subst, ◌∙◌}
 use Rattle.std.specs.List.{AllByRecursion, filter}
-use Rattle.mj_base.specs.declared.event.Event.{Event}
 use Rattle.mj_base.specs.declared.limits.Limits.{Limits}
 use Rattle.mj_machine.specs.declared.connection.Connection.{Connection}
 use Rattle.mj_machine.specs.declared.connection.Role.{Role}
 use Rattle.mj_machine.specs.declared.connection.Role.TheVariants.{Client, Fresh, Gone, Worker}
 use Rattle.mj_machine.specs.declared.held.Held.{Held}
-use Rattle.mj_machine.specs.MachineState.{State, start}
+use Rattle.mj_machine.specs.StoreState.{Store, Told, told_by}
+use Rattle.mj_machine.specs.MachineState.{State, Whole, start_with}
+use Rattle.mj_machine.specs.EventStep.{Noted}
 use Rattle.mj_machine.specs.Connections.{connection_of, with_role}
 use Rattle.mj_machine.specs.Acts.{each}
 use Rattle.mj_machine.specs.Leaving.{held_without}
 use Rattle.mj_machine.specs.TickStep.{deadline_of, due_numbers, expires, has_passed, is_due, is_holding, numbers}
-use Rattle.mj_machine.specs.Steps.{Expiry, Step, expiry_step, lease_steps, run_steps}
+use Rattle.mj_machine.specs.Steps.{Expiry, Step, acts, expiry_step, lease_steps, run_steps}
 use Rattle.mj_machine.proofs.ConnectionLemmas.{changed-other, differs, equal, found-number, holding-without-other}
 use Rattle.mj_laws.specs.Requests.{LeaseHasPassed}
 use Rattle.mj_laws.specs.Soundness.{IsApart, NumbersAreFresh}
 use Rattle.mj_machine.proofs.ListLemmas.{all-map, all-passed}
-use Rattle.mj_machine.proofs.StepWalk.{IsPlain, IsWalked, stays-run, walked-kept}
+use Rattle.mj_machine.proofs.StepWalk.{AnyLane, IsPlain, IsWalked, carried-on, stays-run, walked-kept}
 use Rattle.mj_laws.proofs.ApartLemmas.{apart-filter, numbers-kept}
 use Rattle.mj_laws.proofs.SoundLemmas.{sound-start}
 
@@ -67,8 +68,8 @@ deadline-same limits held others n Client same = refl
 deadline-same limits held others n (Worker r) same = ap (λ (b : Bool). Some (r.mark + cond b limits.busy_lease limits.lease)) same
 deadline-same limits held others n Gone same = refl
 
-due-stays : (n q : ℕ) (s : State) → n ≢ q → IsDue s n → IsDue (expires q s) n
-due-stays n q s apart due =
+due-stays : (n q : ℕ) (told : Told) (s : State) → n ≢ q → IsDue s n → IsDue (expires q told s) n
+due-stays n q told s apart due =
     let c = due.0 in
     let number : c.number ≡ n = found-number n c s.connections due.1 in
     let same = deadline-same s.limits s.held (held_without q s.held) c.number c.role (holding-without-other q c.number (λ is. apart (sym number ∙ is)) s.held) in (
@@ -85,37 +86,37 @@ InTime steps = AllByRecursion LeaseHasPassed steps
 same-expiry : (n m : ℕ) → Expiry n ≡ Expiry m → n ≡ m
 same-expiry n m same = cc same
 
-in-expiries : (ns : List ℕ) (s : State) → Distinct ns → AllByRecursion (IsDue s) ns → InTime (each expiry_step ns s).1
-in-expiries [] s apart due = tt
-in-expiries (n ∷ ns) s apart due = (
-  (λ m is. subst (IsDue s) (same-expiry n m is) due.0),
-  in-expiries ns (expires n s) apart.1 (still ns apart.0 due.1),
+in-expiries : (ns : List ℕ) (w : Whole) → Distinct ns → AllByRecursion (IsDue w.routing) ns → InTime (each expiry_step ns w).1
+in-expiries [] w apart due = tt
+in-expiries (n ∷ ns) w apart due = (
+  (λ m is. subst (IsDue w.routing) (same-expiry n m is) due.0),
+  in-expiries ns (acts (Expiry n) w).0 apart.1 (still ns apart.0 due.1),
 )
   where
-    still : (ms : List ℕ) → AllByRecursion (λ m. m ≢ n) ms → AllByRecursion (IsDue s) ms → AllByRecursion (IsDue (expires n s)) ms
+    still : (ms : List ℕ) → AllByRecursion (λ m. m ≢ n) ms → AllByRecursion (IsDue w.routing) ms → AllByRecursion (IsDue (expires n (told_by w.store) w.routing)) ms
     still [] others all = tt
-    still (m ∷ ms) others all = (due-stays m n s others.0 all.0, still ms others.1 all.1)
+    still (m ∷ ms) others all = (due-stays m n (told_by w.store) w.routing others.0 all.0, still ms others.1 all.1)
 
-in-leases : (s : State) → IsApart (λ c. c.number) s.connections → InTime (lease_steps s).1
-in-leases s apart = in-expiries (due_numbers s) s (distinct-numbers (filter (is_due s) s.connections) (apart-filter (λ c. c.number) (is_due s) s.connections apart)) (all-due s apart)
+in-leases : (w : Whole) → IsApart (λ c. c.number) w.routing.connections → InTime (lease_steps w).1
+in-leases w apart =
+    let s = w.routing in
+    in-expiries (due_numbers s) w (distinct-numbers (filter (is_due s) s.connections) (apart-filter (λ c. c.number) (is_due s) s.connections apart)) (all-due s apart)
 
 -- ---- runs
 
-abbrev AnyLane : State → ℕ → Type 0
-AnyLane s lane = Unit {0}
-
-lease-walked : IsWalked AnyLane NumbersAreFresh NumbersAreFresh LeaseHasPassed
+lease-walked : IsWalked AnyLane (λ w. NumbersAreFresh w.routing) (λ w. NumbersAreFresh w.routing) LeaseHasPassed
 lease-walked =
-    let kept = walked-kept AnyLane NumbersAreFresh (λ cause s free. numbers-kept cause s) in record {
-      plain = λ cause s plain p. ((λ n is. absurd (subst IsPlain is plain)), (kept.plain cause s plain p).1);
-      opens = λ lane s free p. ((λ n is. absurd (cc is)), (kept.opens lane s free p).1);
-      leases = λ s p. (in-leases s p.1, (kept.leases s p).1);
-      message = λ n message s p. ((λ m is. absurd (cc is)), (kept.message n message s p).1);
-      pairs = λ q s is p. ((λ n other. absurd (cc other)), (kept.pairs q s is p).1);
-      eases = λ s p. p;
-      settled = λ s none p. p;
+    let kept = walked-kept AnyLane (λ w. NumbersAreFresh w.routing) (carried-on AnyLane NumbersAreFresh (λ cause s free. numbers-kept cause s)) in record {
+      plain = λ cause w plain p. ((λ n is. absurd (subst IsPlain is plain)), (kept.plain cause w plain p).1);
+      opens = λ lane w free p. ((λ n is. absurd (cc is)), (kept.opens lane w free p).1);
+      leases = λ w p. (in-leases w p.1, (kept.leases w p).1);
+      message = λ n message w p. ((λ m is. absurd (cc is)), (kept.message n message w p).1);
+      pairs = λ q w is p. ((λ n other. absurd (cc other)), (kept.pairs q w is p).1);
+      eases = λ w p. p;
+      settled = λ w none p. p;
     }
 
-pub leases_end_in_time : (limits : Limits) (events : List Event) → AllByRecursion LeaseHasPassed (run_steps limits (start limits) events)
-leases_end_in_time limits events =
-    (stays-run AnyLane NumbersAreFresh NumbersAreFresh LeaseHasPassed lease-walked (λ s p lane. tt) limits (start limits) events (sound-start limits).numbers).0
+pub leases_end_in_time : (limits : Limits) (store : Store) (events : List Noted) → AllByRecursion LeaseHasPassed (run_steps limits (start_with limits store) events)
+leases_end_in_time limits store events =
+    (stays-run AnyLane (λ s c. NumbersAreFresh s) (λ w. NumbersAreFresh w.routing) LeaseHasPassed lease-walked (λ s c p lane. tt) limits (start_with limits store) events
+    (sound-start limits store).numbers).0

@@ -2,6 +2,8 @@ pub mod CountLemmas
 pub mod WorkerLemmas
 pub mod AskerLemmas
 pub mod ApartLemmas
+pub mod NoteLemmas
+pub mod StorelessLemmas
 pub mod SoundLemmas
 pub mod SettledLemmas
 pub mod HeldLemmas
@@ -16,3 +18,5 @@ pub mod PairedLemmas
 pub mod AlikeLemmas
 pub mod AloneLemmas
 pub mod CutLemmas
+pub mod CommandLemmas
+pub mod ShutLemmas

@@ -1,35 +1,43 @@
 -- Each piece that can be read as a reply is the answer to the asker's own request, or the reply that its worker gave.
 use Rattle.std.proofs.Common.{◌⊎◌, ℕ, List, sym, ap, subst, ◌∙◌, inl, inr}
 use Rattle.std.specs.List.{AllByRecursion}
-use Rattle.mj_base.specs.declared.event.Event.{Event}
 use Rattle.mj_base.specs.declared.event.Out.{Out}
 use Rattle.mj_base.specs.declared.event.Out.TheVariants.{End, Note, Piece}
 use Rattle.mj_base.specs.declared.limits.Limits.{Limits}
 use Rattle.mj_worker_cmd.specs.declared.command.OrderAct.TheVariants as order
-use Rattle.mj_machine.specs.MachineState.{State, start}
+use Rattle.mj_machine.specs.StoreState.{Store}
+use Rattle.mj_machine.specs.MachineState.{Whole, start_with}
+use Rattle.mj_machine.specs.Pairing.{body_for}
+use Rattle.mj_machine.specs.EventStep.{Noted}
 use Rattle.mj_machine.specs.Connections.{connection_of, is_asking, voice_of}
 use Rattle.mj_machine.specs.MessageStep.{said_in}
 use Rattle.mj_machine.specs.Sending.{address}
 use Rattle.mj_machine.specs.Steps.{Cause, Step, acts, run_steps, step_of}
 use Rattle.mj_machine.proofs.ListLemmas.{all-both, all-map}
 use Rattle.mj_machine.proofs.StepLemmas.{IsAct, steps-act}
-use Rattle.mj_machine.proofs.Walk.{Answers, Beats, Delivers, Greets, Hands, IsAnswered, IsDelivered, Refuses, Shakes, Why}
-use Rattle.mj_laws.specs.Replies.{IsExplained, IsOwnAnswer, IsOwned, IsReply}
+use Rattle.mj_machine.proofs.Changes.{Answers, Beats, Delivers, Greets, Hands, IsAnswered, IsDelivered, IsServed, Refuses, Shakes, Tells, Why}
+use Rattle.mj_laws.specs.Replies.{IsExplained, IsOwnAnswer, IsOwned, IsReply, IsTitanics}
 use Rattle.mj_laws.specs.Soundness.{ServicesAgree}
 use Rattle.mj_laws.proofs.HeldLemmas.{replies-of}
 use Rattle.mj_laws.proofs.PutLemmas.{HasReason, IsPut, acts-have-reasons}
-use Rattle.mj_laws.proofs.SoundLemmas.{stays-sound}
+use Rattle.mj_laws.proofs.SoundLemmas.{stays-sound-with}
 use Rattle.mj_laws.proofs.TextLemmas.{greeting-no_reply, order-no_reply, ready-no_reply}
 
-module _ (cause : Cause) (s0 : State) (agree : ServicesAgree s0) where
-  abbrev Owned : ℕ → List ℕ → Type 0
-  Owned lane octets = IsOwned lane octets (step_of cause s0) ⊎ IsOwnAnswer lane octets (step_of cause s0)
+module _ (cause : Cause) (w0 : Whole) (agree : ServicesAgree w0.routing) where
+  abbrev T : Step
+  T = step_of cause w0 (acts cause w0)
 
-  answered : (lane : ℕ) (octets : List ℕ) (put : IsPut cause s0 lane octets) → IsAnswered cause s0 put.number octets → Owned lane octets
+  abbrev Put : ℕ → List ℕ → Type 0
+  Put lane octets = IsPut cause w0 T.after.routing.limits T.after.store lane octets
+
+  abbrev Owned : ℕ → List ℕ → Type 0
+  Owned lane octets = IsOwned lane octets T ⊎ (IsOwnAnswer lane octets T ⊎ IsTitanics lane octets T)
+
+  answered : (lane : ℕ) (octets : List ℕ) (put : Put lane octets) → IsAnswered cause w0 put.number octets → Owned lane octets
   answered lane octets put a =
       elim put.there [
         | inl opens ↦ absurd (cc (a.cause_is, opens.1))
-        | inr was ↦ inr (record {
+        | inr was ↦ inr (inl (record {
           client = put.number;
           message = a.message;
           cause = a.cause_is;
@@ -40,10 +48,10 @@ module _ (cause : Cause) (s0 : State) (agree : ServicesAgree s0) where
           there = was.1;
           lane_is = was.2 ∙ put.lane_is;
           text = a.text;
-        })
+        }))
       ]
 
-  delivered : (lane : ℕ) (octets : List ℕ) (put : IsPut cause s0 lane octets) → IsDelivered cause s0 put.number octets → Owned lane octets
+  delivered : (lane : ℕ) (octets : List ℕ) (put : Put lane octets) → IsDelivered cause w0.routing put.number octets → Owned lane octets
   unfolding replies-of
   delivered lane octets put d =
       elim put.there [
@@ -53,7 +61,7 @@ module _ (cause : Cause) (s0 : State) (agree : ServicesAgree s0) where
           message = d.message;
           cause = d.cause_is;
           final = d.last;
-          says = replies-of d.last d.worker (said_in d.message) s0 agree d.reply;
+          says = replies-of d.last d.worker (said_in d.message) w0.routing agree d.reply;
           client = put.number;
           origin = d.origin;
           asker = was.0;
@@ -64,27 +72,50 @@ module _ (cause : Cause) (s0 : State) (agree : ServicesAgree s0) where
         })
       ]
 
-  owned : (lane : ℕ) (octets : List ℕ) (put : IsPut cause s0 lane octets) → Why cause s0 put.number octets → IsReply octets → Owned lane octets
+  served : (lane : ℕ) (octets : List ℕ) (put : Put lane octets) → IsServed cause w0 T.after.routing.limits T.after.store put.number octets → Owned lane octets
+  served lane octets put a =
+      elim put.there [
+        | inl opens ↦ absurd (cc (a.cause_is, opens.1))
+        | inr was ↦ inr (inr (record {
+          client = put.number;
+          message = a.message;
+          cause = a.cause_is;
+          cmd = a.cmd;
+          said_is = a.said_is;
+          free = a.free;
+          reserved = a.reserved;
+          asker = was.0;
+          there = was.1;
+          lane_is = was.2 ∙ put.lane_is;
+          frames = a.frames;
+          says = a.says;
+          text = a.text;
+        }))
+      ]
+
+  owned : (lane : ℕ) (octets : List ℕ) (put : Put lane octets) → Why cause w0 T.after.routing.limits T.after.store put.number octets → IsReply octets → Owned lane octets
   owned lane octets put (Greets text) reply = absurd (greeting-no_reply (subst IsReply text reply))
   owned lane octets put (Shakes text) reply = absurd (ready-no_reply (subst IsReply text reply))
   owned lane octets put (Refuses voice text) reply = absurd (order-no_reply voice order.Disconnect (subst IsReply text reply))
   owned lane octets put (Beats voice text) reply = absurd (order-no_reply voice order.Heartbeat (subst IsReply text reply))
   owned lane octets put (Hands p is text) reply =
-      absurd (order-no_reply (voice_of (connection_of p.waiter.worker s0.connections)) (order.Request (address p.request.origin) p.request.body) (subst IsReply text reply))
+      absurd (order-no_reply (voice_of (connection_of p.waiter.worker w0.routing.connections)) (order.Request (address p.request.origin) (body_for p.request w0.store)) (subst IsReply text reply))
   owned lane octets put (Answers a) reply = answered lane octets put a
+  owned lane octets put (Tells a) reply = served lane octets put a
   owned lane octets put (Delivers d) reply = delivered lane octets put d
 
-  explained : (out : Out) → HasReason cause s0 out → IsExplained (step_of cause s0) out
+  explained : (out : Out) → HasReason cause w0 T.after.routing.limits T.after.store out → IsExplained T out
   explained (Piece lane octets) put = λ reply. owned lane octets put put.why reply
   explained (End lane reason at) put = tt
   explained (Note note) put = tt
 
-step-explained : (t : Step) → IsAct t → ServicesAgree t.before → AllByRecursion (IsExplained t) t.outs
+step-explained : (t : Step) → IsAct t → ServicesAgree t.before.routing → AllByRecursion (IsExplained t) t.outs
 step-explained t act agree =
     subst (λ (u : Step). AllByRecursion (IsExplained u) u.outs) (sym act.is)
-    (all-map (HasReason t.cause t.before) _ (explained t.cause t.before agree) (acts t.cause t.before).1 (acts-have-reasons t.cause t.before act.allowed))
+    (all-map _ _ (explained t.cause t.before agree) (acts t.cause t.before).1 (acts-have-reasons t.cause t.before act.allowed))
 
-pub replies_are_owned : (limits : Limits) (events : List Event) → AllByRecursion (λ t. AllByRecursion (IsExplained t) t.outs) (run_steps limits (start limits) events)
-replies_are_owned limits events =
-    all-map _ _ (λ t both. step-explained t both.0 both.1.0.services) (run_steps limits (start limits) events)
-    (all-both _ _ (run_steps limits (start limits) events) (steps-act limits (start limits) events) (stays-sound limits events).0)
+pub replies_are_owned : (limits : Limits) (store : Store) (events : List Noted) → AllByRecursion (λ t. AllByRecursion (IsExplained t) t.outs) (run_steps limits (start_with limits store) events)
+replies_are_owned limits store events =
+    let m = start_with limits store in
+    all-map _ _ (λ t both. step-explained t both.0 both.1.0.services) (run_steps limits m events)
+    (all-both _ _ (run_steps limits m events) (steps-act limits m events) (stays-sound-with limits store events).0)

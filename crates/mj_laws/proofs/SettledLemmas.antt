@@ -3,21 +3,30 @@ use Rattle.std.proofs.Common.{◌≡◌, ◌≢◌, ◌||◌, ℕ, Bool, true, f
 use Rattle.std.specs.List.{AllByRecursion, list_any}
 use Rattle.std.specs.Str.{bytes_eq}
 use Rattle.std.proofs.lemmas.Slice.Eq.{bytes_eq-Decides}
-use Rattle.mj_base.specs.declared.event.Event.{Event}
 use Rattle.mj_base.specs.declared.limits.Limits.{Limits}
 use Rattle.mj_wire.specs.declared.item.WireItem.TheVariants.{Message}
-use Rattle.mj_queue.specs.Settling.{Pair, has_waiter, pair}
+use Rattle.mj_queue.specs.Settling.{Pair, has_waiter, pair, without_client}
+use Rattle.mj_queue.specs.declared.request.Request.{Request}
 use Rattle.mj_queue.specs.declared.worker.Waiter.{Waiter}
 use Rattle.mj_queue.proofs.LawLemmas.{some-pair}
-use Rattle.mj_machine.specs.MachineState.{State, start}
+use Rattle.mj_machine.specs.StoreState.{Store, Told, told_by}
+use Rattle.mj_machine.specs.MachineState.{State, Whole, start}
+use Rattle.mj_machine.specs.MessageStep.{message_step, said_in, says_by}
+use Rattle.mj_machine.specs.Connections.{connection_of}
+use Rattle.mj_machine.specs.EventStep.{Noted, effect, happening, state_after}
+use Rattle.mj_machine.specs.MachineState.{entered}
 use Rattle.mj_machine.specs.Leaving.{left}
 use Rattle.mj_machine.specs.TickStep.{due_numbers}
 use Rattle.mj_machine.specs.MachineRun.{run_state}
 use Rattle.mj_machine.specs.Steps.{Cause, Expiry, IsAllowed, Item, Opening, Paired, acts, expiry_step, run_steps, step_of}
 use Rattle.mj_machine.proofs.ListLemmas.{all-failed, all-filter, all-map}
-use Rattle.mj_machine.proofs.StepWalk.{IsPlain, IsWalked, Stays, plain-allowed, stays-each, stays-run}
-use Rattle.mj_machine.proofs.Walk.{IsKept, kept-acts}
-use Rattle.mj_laws.specs.NobodyWaits.{BeginsSettled, IsSettled}
+use Rattle.mj_machine.proofs.StepWalk.{AnyLane, IsPlain, IsWalked, Of, Stays, plain-allowed, stays-each, stays-run}
+use Rattle.mj_machine.proofs.Changes.{IsCarried}
+use Rattle.mj_machine.proofs.SettlingLemmas.{settles-end}
+use Rattle.mj_machine.proofs.Walk.{walk-acts}
+use Rattle.mj_laws.specs.NobodyWaits.{BeginsSettled, EventsSettle, IsSettled, MessagesSettle}
+use Rattle.mj_laws.specs.Storeless.{HasNoTickets, IsStoreless}
+use Rattle.mj_laws.proofs.StorelessLemmas.{IsIdle, idle-acts, idle-carried, none-back, not-shut, not-stored, storeless-start}
 
 -- ---- no pair
 
@@ -53,58 +62,81 @@ pair-settled s settled = none (pair s.waiting s.queue) (sym (some-pair s.waiting
     none None empty = refl
     none (Some p) full = absurd (cc full)
 
--- ---- acts
+-- ---- with a store or without one
 
-settled-left : (n : ℕ) (s : State) → IsSettled s → IsSettled (left n s)
-settled-left n s settled =
-    all-filter _ _ s.queue (all-map _ _ (λ r free. all-filter (λ (w : Waiter). w.service ≢ r.service) _ s.waiting free) s.queue settled)
+pub events_settle : EventsSettle
+events_settle limits m e = settled-pair (state_after limits m e).state (settles-end (effect (happening limits m e.event) (entered m.state m.store e.notes)).0)
+
+pub messages_settle : MessagesSettle
+messages_settle n message w = settled-pair (message_step n message w).0.routing (settles-end (says_by n (connection_of n w.routing.connections) (said_in message) w).0)
+
+-- ---- acts without a store
+
+settled-left : (n : ℕ) (told : Told) (s : State) → HasNoTickets s → IsSettled s → IsSettled (left n told s)
+settled-left n told s none settled =
+    subst (λ (queue : List Request). AllByRecursion (λ r. AllByRecursion (λ (w : Waiter). w.service ≢ r.service) (left n told s).waiting) queue) (sym (none-back told n s.held (without_client n s.queue) none.held))
+    (all-filter _ _ s.queue (all-map _ _ (λ r free. all-filter (λ (w : Waiter). w.service ≢ r.service) _ s.waiting free) s.queue settled))
 
 -- an act of this cause queues nothing, and lets nobody wait
 abbrev IsCalm : Cause → Type 0
 IsCalm cause = ((n : ℕ) (message : List (List ℕ)) → cause ≡ Item n (Message message) → ⊥) × ((p : Pair) → cause ≡ Paired p → ⊥)
 
-settled-kept : (cause : Cause) (s0 : State) → IsCalm cause → IsKept cause s0 IsSettled
-settled-kept cause s0 calm = record {
-  keeps_marked = λ q s p. p;
-  keeps_sent = λ q octets c s is slow p. p;
-  keeps_reported = λ q s p. p;
-  keeps_removed = λ q s p. settled-left q s p;
-  keeps_gone = λ q s p. settled-left q s p;
-  keeps_expired = λ q s is p. settled-left q s p;
-  keeps_asking = λ q c is plain p. p;
-  keeps_queued = λ q c message request told is origin p. absurd (calm.0 q message told);
-  keeps_registered = λ q c message voice service told is fresh p. absurd (calm.0 q message told);
-  keeps_rested = λ q service s final works p. absurd (calm.0 q final.message final.cause_is);
-  keeps_given = λ p by is settled. absurd (calm.1 p by);
-  keeps_opened = λ lane is p. p;
-  keeps_time = λ ms s p. p;
-}
+settled-carried : (cause : Cause) (w0 : Whole) → IsCalm cause → IsCarried cause w0 (λ d. IsIdle w0 d × IsSettled d.0.routing)
+settled-carried cause w0 calm =
+    let idle = idle-carried cause w0 in record {
+      marked = λ q w o p. (idle.marked q w o p.0, p.1);
+      sends = λ q piece c w o why is slow p. (idle.sends q piece c w o why is slow p.0, p.1);
+      reported = λ q w o p. (idle.reported q w o p.0, p.1);
+      removes = λ q w o p. (idle.removes q w o p.0, settled-left q (told_by w.store) w.routing p.0.tickets p.1);
+      ends = λ lane q reason at w o p. (idle.ends lane q reason at w o p.0, settled-left q (told_by w.store) w.routing p.0.tickets p.1);
+      gone = λ q w o p. (idle.gone q w o p.0, settled-left q (told_by w.store) w.routing p.0.tickets p.1);
+      expired = λ q w o is p. (idle.expired q w o is p.0, settled-left q (told_by w.store) w.routing p.0.tickets p.1);
+      asking = λ q c o is plain p. (idle.asking q c o is plain p.0, p.1);
+      queued = λ q c message request o told is origin p. absurd (calm.0 q message told);
+      registers = λ q c message voice service o told is fresh p. absurd (calm.0 q message told);
+      rested = λ q service w o final works nothing p. absurd (calm.0 q final.message final.cause_is);
+      given = λ p w o by is same settled. absurd (calm.1 p by);
+      opens = λ lane o is p. (idle.opens lane o is p.0, p.1);
+      time = λ ms w o p. (idle.time ms w o p.0, p.1);
+      counts = λ w o read works p. (idle.counts w o read works p.0, p.1);
+      shuts = λ doubt w o in_doubt fault only p. (idle.shuts doubt w o in_doubt fault only p.0, all-filter _ _ w.routing.queue p.1);
+      reopens = λ doubt w o shut works only p. absurd (not-shut w.store doubt p.0.store shut);
+      accepts = λ service body w o usable stored room works only p. absurd (not-stored w.store p.0.store stored);
+      stores = λ n number body w o usable pending holds works only p. (idle.stores n number body w o usable pending holds works only p.0, p.1);
+      closes = λ ticket id w o usable found works only p. (idle.closes ticket id w o usable found works only p.0, all-filter _ _ w.routing.queue p.1);
+      passes = λ p number by found origin fault settled. absurd (calm.1 p by);
+    }
 
--- ---- runs
+-- ---- runs without a store
 
-begun : (cause : Cause) (s : State) → IsAllowed cause s → IsCalm cause → IsSettled s → BeginsSettled (step_of cause s) × IsSettled (acts cause s).0
-begun cause s allowed calm settled = (inr settled, kept-acts cause s IsSettled (settled-kept cause s calm) allowed settled)
+abbrev pub IsCalmly : State → Store → Type 0
+IsCalmly s store = IsStoreless s store × IsSettled s
 
-expiry : (n : ℕ) (s : State) → IsSettled s → Stays BeginsSettled IsSettled (expiry_step n s)
-expiry n s settled =
-    let both = begun (Expiry n) s tt ((λ q message is. cc is), (λ p is. cc is)) settled in record { steps = (both.0, tt); end = both.1 }
+begun : (cause : Cause) (w : Whole) → IsAllowed cause w.routing → IsCalm cause → Of IsCalmly w → BeginsSettled (step_of cause w (acts cause w)) × Of IsCalmly (acts cause w).0
+begun cause w allowed calm p =
+    let now =
+    walk-acts cause w (λ d. IsIdle w d × IsSettled d.0.routing) (settled-carried cause w calm) allowed (record { store = p.0.0; tickets = p.0.1; acts = refl; notes = refl; silent = refl }, p.1) in
+    (inr p.1, ((now.0.store, now.0.tickets), now.1))
 
-abbrev pub AnyLane : State → ℕ → Type 0
-AnyLane s lane = Unit {0}
+expiry : (n : ℕ) (w : Whole) → Of IsCalmly w → Stays BeginsSettled (Of IsCalmly) (expiry_step n w)
+expiry n w settled =
+    let both = begun (Expiry n) w tt ((λ q message is. cc is), (λ p is. cc is)) settled in record { steps = (both.0, tt); end = both.1 }
 
-abbrev pub AnyState : State → Type 0
-AnyState s = Unit {0}
+still-idle : (cause : Cause) (w : Whole) → IsAllowed cause w.routing → Of IsStoreless w → Of IsStoreless (acts cause w).0
+still-idle cause w allowed p = let now = idle-acts cause w allowed p in (now.store, now.tickets)
 
-pub settled-walked : IsWalked AnyLane IsSettled AnyState BeginsSettled
+pub settled-walked : IsWalked AnyLane (Of IsCalmly) (Of IsStoreless) BeginsSettled
 settled-walked = record {
-  plain = λ cause s plain p. begun cause s (plain-allowed cause s plain) ((λ q message is. subst IsPlain is plain), (λ q is. subst IsPlain is plain)) p;
-  opens = λ lane s free p. begun (Opening lane) s tt ((λ q message is. cc is), (λ q is. cc is)) p;
-  leases = λ s p. let all = stays-each BeginsSettled IsSettled expiry_step expiry (due_numbers s) s p in (all.steps, all.end);
-  message = λ n message s p. (inr p, tt);
-  pairs = λ p s is q. (inl (p, refl), tt);
-  eases = λ s p. tt;
-  settled = λ s none q. settled-pair s none;
+  plain = λ cause w plain p. begun cause w (plain-allowed cause w.routing plain) ((λ q message is. subst IsPlain is plain), (λ q is. subst IsPlain is plain)) p;
+  opens = λ lane w free p. begun (Opening lane) w tt ((λ q message is. cc is), (λ q is. cc is)) p;
+  leases = λ w p. let all = stays-each BeginsSettled (Of IsCalmly) expiry_step expiry (due_numbers w.routing) w p in (all.steps, all.end);
+  message = λ n message w p. (inr p.1, still-idle (Item n (Message message)) w tt p.0);
+  pairs = λ p w is q. (inl (p, refl), still-idle (Paired p) w is q);
+  eases = λ w p. p.0;
+  settled = λ w none q. (q, settled-pair w.routing none);
 }
 
-pub nobody_waits : (limits : Limits) (events : List Event) → AllByRecursion BeginsSettled (run_steps limits (start limits) events) × IsSettled (run_state limits (start limits) events).state
-nobody_waits limits events = stays-run AnyLane IsSettled AnyState BeginsSettled settled-walked (λ s p lane. tt) limits (start limits) events tt
+pub nobody_waits : (limits : Limits) (events : List Noted) → AllByRecursion BeginsSettled (run_steps limits (start limits) events) × IsSettled (run_state limits (start limits) events).state
+nobody_waits limits events =
+    let all = stays-run AnyLane IsCalmly (Of IsStoreless) BeginsSettled settled-walked (λ s store p lane. tt) limits (start limits) events (storeless-start limits, tt) in
+    (all.0, all.1.1)

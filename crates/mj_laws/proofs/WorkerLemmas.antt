@@ -1,5 +1,5 @@
 -- Each worker stands once among those that wait and those that hold, with its service, and nobody else does.
-use Rattle.std.proofs.Common.{◌≡◌, ◌≢◌, ◌+◌, ◌==◌, ℕ, false, not, List, [], ◌∷◌, ◌++◌, Option, None, Some, MatchOption, refl, sym, ap, subst, ◌∙◌, inl, inr, arith}
+use Rattle.std.proofs.Common.{◌≡◌, ◌≢◌, ◌≤◌, ◌+◌, ◌==◌, ℕ, false, not, List, [], ◌∷◌, ◌++◌, Option, None, Some, MatchOption, refl, sym, ap, subst, ◌∙◌, inl, inr, arith}
 use Rattle.std.specs.List.{AllByRecursion, list_any}
 use Rattle.std.proofs.lemmas.Bool.Decides.{eqb_tells}
 use Rattle.std.proofs.lemmas.Slice.Eq.{bytes_eq-Decides}
@@ -12,6 +12,7 @@ use Rattle.mj_machine.specs.declared.connection.Connection.{Connection}
 use Rattle.mj_machine.specs.declared.connection.Role.{Role}
 use Rattle.mj_machine.specs.declared.connection.Role.TheVariants.{Fresh, Client, Worker, Gone}
 use Rattle.mj_machine.specs.declared.held.Held.{Held}
+use Rattle.mj_machine.specs.StoreState.{Told}
 use Rattle.mj_machine.specs.MachineState.{State}
 use Rattle.mj_machine.specs.Connections.{changed, connection_of, service_in, service_of, with_role}
 use Rattle.mj_machine.specs.Leaving.{becomes, held_without, left, removed}
@@ -25,7 +26,7 @@ use Rattle.mj_laws.specs.Soundness.{ServicesAgree, WorkersStandOnce, holdings, o
 use Rattle.mj_laws.proofs.CountLemmas.{all-first, passed-apart, times-append, times-first, times-without-other, times-without-same}
 use Rattle.mj_machine.proofs.ListLemmas.{all-append, all-map, all-passed}
 use Rattle.mj_machine.proofs.LookLemmas.{heard-service, look-added, look-changed, look-same, service-given, service-idle, spoken-service}
-use Rattle.mj_machine.proofs.Walk.{IsKept, IsNoServer, given_over}
+use Rattle.mj_machine.proofs.Changes.{IsKept, IsNoServer, given_over, passed_over}
 
 -- ---- what stays
 
@@ -51,6 +52,10 @@ service-asking n q c cs is plain = service-idle n q Client c cs is (no-server c.
 pub is-pair : (waiting : List Waiter) (requests : List Request) (p : Pair) → pair waiting requests ≡ Some p → IsPair waiting requests p
 is-pair waiting requests p e =
     subst (λ (o : Option Pair). MatchOption o (list_any (has_waiter waiting) requests ≡ false) (IsPair waiting requests)) e (pair-is-first waiting requests)
+
+pub places-few : (o : Option (List ℕ)) → places o ≤ 1
+places-few None = omega arith
+places-few (Some service) = omega arith
 
 -- ---- once
 
@@ -116,8 +121,18 @@ once-given s p is once n =
     let now = once n in
     omega (arith, w, h, now)
 
-once-left : (q : ℕ) (role : Role) (s : State) → service_in role ≡ None → WorkersStandOnce s → WorkersStandOnce (becomes q role (left q s))
-once-left q role s idle once =
+-- the pair's worker waits on
+once-passed : (s : State) (p : Pair) → pair s.waiting s.queue ≡ Some p → WorkersStandOnce s → WorkersStandOnce (passed_over p s)
+once-passed s p is once =
+    let n = p.waiter.worker in
+    let w = times-first (λ (x : Waiter). x.worker == n) (serves p.request.service) s.waiting p.waiter p.waiting (is-pair s.waiting s.queue p is).found in
+    let one = ap one_if (equal n) in
+    let now = once n in
+    let few = places-few (service_of (connection_of n s.connections)) in
+    once-waits s n p.waiter.service s.connections once (omega (arith, w, one, now, few)) (λ q apart. refl)
+
+once-left : (q : ℕ) (role : Role) (told : Told) (s : State) → service_in role ≡ None → WorkersStandOnce s → WorkersStandOnce (becomes q role (left q told s))
+once-left q role told s idle once =
     once-gone s q (becomes q role s).connections once (service-given q role s.connections idle) (λ n apart. changed-other q n (with_role role) (λ c. refl) apart s.connections)
 
 pub once-kept : (cause : Cause) (s0 : State) → IsKept cause s0 WorkersStandOnce
@@ -125,9 +140,9 @@ once-kept cause s0 = record {
   keeps_marked = λ q s p. once-same s _ p (λ n. service-marked n q s.now s.connections);
   keeps_sent = λ q octets c s is slow p. once-same s _ p (λ n. service-sent n q s.now octets s.connections);
   keeps_reported = λ q s p. once-same s _ p (λ n. service-reported n q s.connections);
-  keeps_removed = λ q s p. once-gone s q (removed q s).connections p (ap service_of (cut_off-same q s.connections)) (λ n apart. cut_off-other q n apart s.connections);
-  keeps_gone = λ q s p. once-left q Gone s refl p;
-  keeps_expired = λ q s is p. once-left q Fresh s refl p;
+  keeps_removed = λ q told s p. once-gone s q (removed q told s).connections p (ap service_of (cut_off-same q s.connections)) (λ n apart. cut_off-other q n apart s.connections);
+  keeps_gone = λ q told s p. once-left q Gone told s refl p;
+  keeps_expired = λ q told s is p. once-left q Fresh told s refl p;
   keeps_asking = λ q c is plain p. once-same s0 _ p (λ n. service-asking n q c s0.connections is plain);
   keeps_queued = λ q c message request told is origin p. p;
   keeps_registered = λ q c message voice service told is fresh p. once-waits s0 q service (becomes q (Worker (registration voice service s0)) s0).connections p
@@ -135,8 +150,13 @@ once-kept cause s0 = record {
       (λ n apart. changed-other q n (with_role (Worker (registration voice service s0))) (λ d. refl) apart s0.connections);
   keeps_rested = λ q service s final works p. once-waits s q service s.connections p (ap places works) (λ n apart. refl);
   keeps_given = λ p by is once. once-given s0 p is once;
+  keeps_passed = λ p by is once. once-passed s0 p is once;
   keeps_opened = λ lane is p. once-same s0 _ p (λ n. look-added service_of n _ refl s0.connections);
   keeps_time = λ ms s p. p;
+  keeps_emptied = λ s p. p;
+  keeps_refilled = λ store s p. p;
+  keeps_submitted = λ number service s p. p;
+  keeps_dropped = λ number s p. p;
 }
 
 -- ---- services
@@ -177,8 +197,13 @@ agree-given s p is all =
       all-append _ s.held (held_by_pair p ∷ []) all.1 (parts.0 ∙ ap (λ (x : List ℕ). Some x) same, tt),
     )
 
-agree-left : (q : ℕ) (role : Role) (s : State) → ServicesAgree s → ServicesAgree (becomes q role (left q s))
-agree-left q role s all =
+agree-passed : (s : State) (p : Pair) → pair s.waiting s.queue ≡ Some p → ServicesAgree s → ServicesAgree (passed_over p s)
+agree-passed s p is all =
+    let parts = all-first _ (serves p.request.service) s.waiting p.waiter p.waiting (is-pair s.waiting s.queue p is).found all.0 in
+    agree-waits p.waiter.worker p.waiter.service s.connections s.connections s.waiting s.held parts.0 (λ n apart. refl) all
+
+agree-left : (q : ℕ) (role : Role) (told : Told) (s : State) → ServicesAgree s → ServicesAgree (becomes q role (left q told s))
+agree-left q role told s all =
     agree-without q s.connections (becomes q role s).connections s.waiting s.held (λ n apart. changed-other q n (with_role role) (λ c. refl) apart s.connections) all
 
 pub services-kept : (cause : Cause) (s0 : State) → IsKept cause s0 ServicesAgree
@@ -186,9 +211,9 @@ services-kept cause s0 = record {
   keeps_marked = λ q s p. agree-same s.connections _ s.waiting s.held (λ n. service-marked n q s.now s.connections) p;
   keeps_sent = λ q octets c s is slow p. agree-same s.connections _ s.waiting s.held (λ n. service-sent n q s.now octets s.connections) p;
   keeps_reported = λ q s p. agree-same s.connections _ s.waiting s.held (λ n. service-reported n q s.connections) p;
-  keeps_removed = λ q s p. agree-without q s.connections (removed q s).connections s.waiting s.held (λ n apart. cut_off-other q n apart s.connections) p;
-  keeps_gone = λ q s p. agree-left q Gone s p;
-  keeps_expired = λ q s is p. agree-left q Fresh s p;
+  keeps_removed = λ q told s p. agree-without q s.connections (removed q told s).connections s.waiting s.held (λ n apart. cut_off-other q n apart s.connections) p;
+  keeps_gone = λ q told s p. agree-left q Gone told s p;
+  keeps_expired = λ q told s is p. agree-left q Fresh told s p;
   keeps_asking = λ q c is plain p. agree-same s0.connections _ s0.waiting s0.held (λ n. service-asking n q c s0.connections is plain) p;
   keeps_queued = λ q c message request told is origin p. p;
   keeps_registered = λ q c message voice service told is fresh p.
@@ -197,6 +222,11 @@ services-kept cause s0 = record {
       (λ n apart. changed-other q n (with_role (Worker (registration voice service s0))) (λ d. refl) apart s0.connections) p;
   keeps_rested = λ q service s final works p. agree-waits q service s.connections s.connections s.waiting s.held works (λ n apart. refl) p;
   keeps_given = λ p by is all. agree-given s0 p is all;
+  keeps_passed = λ p by is all. agree-passed s0 p is all;
   keeps_opened = λ lane is p. agree-same s0.connections _ s0.waiting s0.held (λ n. look-added service_of n _ refl s0.connections) p;
   keeps_time = λ ms s p. p;
+  keeps_emptied = λ s p. p;
+  keeps_refilled = λ store s p. p;
+  keeps_submitted = λ number service s p. p;
+  keeps_dropped = λ number s p. p;
 }

@@ -1,5 +1,9 @@
 pub mod NobodyWaits
 pub mod Soundness
+pub mod Storeless
+pub mod Kept
+pub mod Tickets
+pub mod Notes
 pub mod Requests
 pub mod Replies
 pub mod Cuts

@@ -1,7 +1,6 @@
 -- Busy workers: one request at a time.
 use Rattle.std.specs.Prelude.{ℕ, ◌≡◌, ◌⊎◌, Bool, true, false, List, [], ◌∷◌, ◌++◌, Option, None, Some}
 use Rattle.std.specs.List.{AllByRecursion}
-use Rattle.mj_base.specs.declared.event.Event.{Event}
 use Rattle.mj_base.specs.declared.event.Out.{Out}
 use Rattle.mj_base.specs.declared.event.Out.TheVariants.{End, Note, Piece}
 use Rattle.mj_base.specs.declared.limits.Limits.{Limits}
@@ -18,11 +17,13 @@ use Rattle.mj_machine.specs.declared.connection.Role.TheVariants.{Client, Fresh,
 use Rattle.mj_machine.specs.declared.connection.Voice.{Voice}
 use Rattle.mj_machine.specs.declared.said.Said.{Said}
 use Rattle.mj_machine.specs.declared.said.Said.TheVariants.{Serves}
-use Rattle.mj_machine.specs.MachineState.{State, start}
+use Rattle.mj_machine.specs.MachineState.{Machine, State}
+use Rattle.mj_machine.specs.EventStep.{Noted}
+use Rattle.mj_machine.specs.Leaving.{held_by}
 use Rattle.mj_machine.specs.Connections.{connection_of, voice_of}
-use Rattle.mj_machine.specs.MessageStep.{held_by, said_in}
+use Rattle.mj_machine.specs.MessageStep.{said_in}
 use Rattle.mj_machine.specs.Sending.{address, order_text}
-use Rattle.mj_machine.specs.Pairing.{bodiless, request_text}
+use Rattle.mj_machine.specs.Pairing.{bodiless, body_for, request_text, with_body}
 use Rattle.mj_machine.specs.TickStep.{is_due}
 use Rattle.mj_machine.specs.Steps.{Expiry, Item, Paired, Step, run_steps}
 
@@ -57,7 +58,7 @@ pub record Replies (final : Bool) (n : ℕ) (said : Said) (s : State) : Type 0 w
 pub record IsFinalReply (n : ℕ) (request : AnyRequest) (t : Step) : Type 0 where
   pub message : List (List ℕ)
   pub cause : t.cause ≡ Item n (Message message)
-  pub says : Replies true n (said_in message) t.before
+  pub says : Replies true n (said_in message) t.before.routing
   pub answers : says.request ≡ request
 
 abbrev pub is_gone : Role → Bool
@@ -73,16 +74,16 @@ has_left (Some c) = is_gone c.role
 
 -- its final reply to this request, its lease's end, or its leaving
 abbrev pub IsFreeing : ℕ → AnyRequest → Step → Type 0
-IsFreeing n request t = IsFinalReply n request t ⊎ ((t.cause ≡ Expiry n) ⊎ (has_left (connection_of n t.after.connections) ≡ true))
+IsFreeing n request t = IsFinalReply n request t ⊎ ((t.cause ≡ Expiry n) ⊎ (has_left (connection_of n t.after.routing.connections) ≡ true))
 
 abbrev pub OneFrees : ℕ → AnyRequest → List Step → Type 0
 OneFrees n request [] = ⊥
 OneFrees n request (t ∷ steps) = IsFreeing n request t ⊎ OneFrees n request steps
 
 -- between two REQUESTs to one connection; a final reply there is to the request that the first of the two handed over
-abbrev pub OneRequestAtATime : Limits → List Event → Type 0
-OneRequestAtATime limits events = (n : ℕ) (front between rest : List Step) (t u : Step)
-    → run_steps limits (start limits) events ≡ front ++ (t ∷ (between ++ (u ∷ rest)))
+abbrev pub OneRequestAtATime : Limits → Machine → List Noted → Type 0
+OneRequestAtATime limits m events = (n : ℕ) (front between rest : List Step) (t u : Step)
+    → run_steps limits m events ≡ front ++ (t ∷ (between ++ (u ∷ rest)))
     → (first : IsRequestTo n t) → IsRequestTo n u → OneFrees n (bodiless first.chosen.request) between
 
 -- ---- REQUESTs, said of bytes
@@ -91,14 +92,15 @@ OneRequestAtATime limits events = (n : ℕ) (front between rest : List Step) (t 
 abbrev pub IsRequest : List ℕ → Type 0
 IsRequest octets = (voice : Voice) × (to : List ℕ) × (body : List (List ℕ)) × (octets ≡ order_text voice (Request to body))
 
--- the step hands a queued request to the worker on this lane, and the bytes say so in the worker's version
+-- the step hands a queued request to the worker on this lane, and the bytes say so in the worker's version, with the
+-- request's body, or that of its ticket
 pub record IsHandedOver (lane : ℕ) (octets : List ℕ) (t : Step) : Type 0 where
   pub chosen : Pair
   pub cause : t.cause ≡ Paired chosen
   pub worker : Connection
-  pub there : connection_of chosen.waiter.worker t.before.connections ≡ Some worker
+  pub there : connection_of chosen.waiter.worker t.before.routing.connections ≡ Some worker
   pub lane_is : worker.lane ≡ lane
-  pub text : octets ≡ request_text (voice_of (Some worker)) chosen.request
+  pub text : octets ≡ request_text (voice_of (Some worker)) (with_body (body_for chosen.request t.before.store) chosen.request)
   pub alone : t.outs ≡ Piece lane octets ∷ []
 
 -- a piece that can be read as a REQUEST
@@ -107,14 +109,14 @@ IsPaired t (Piece lane octets) = IsRequest octets → IsHandedOver lane octets t
 IsPaired t (End lane reason at) = Unit {0}
 IsPaired t (Note note) = Unit {0}
 
-abbrev pub RequestsArePaired : Limits → List Event → Type 0
-RequestsArePaired limits events = AllByRecursion (λ t. AllByRecursion (IsPaired t) t.outs) (run_steps limits (start limits) events)
+abbrev pub RequestsArePaired : Limits → Machine → List Noted → Type 0
+RequestsArePaired limits m events = AllByRecursion (λ t. AllByRecursion (IsPaired t) t.outs) (run_steps limits m events)
 
 -- ---- leases
 
 -- where a step ends a worker's lease, the worker is there, and was last heard that long ago
 abbrev pub LeaseHasPassed : Step → Type 0
-LeaseHasPassed t = (n : ℕ) → t.cause ≡ Expiry n → (c : Connection) × (connection_of n t.before.connections ≡ Some c) × (is_due t.before c ≡ true)
+LeaseHasPassed t = (n : ℕ) → t.cause ≡ Expiry n → (c : Connection) × (connection_of n t.before.routing.connections ≡ Some c) × (is_due t.before.routing c ≡ true)
 
-abbrev pub LeasesEndInTime : Limits → List Event → Type 0
-LeasesEndInTime limits events = AllByRecursion LeaseHasPassed (run_steps limits (start limits) events)
+abbrev pub LeasesEndInTime : Limits → Machine → List Noted → Type 0
+LeasesEndInTime limits m events = AllByRecursion LeaseHasPassed (run_steps limits m events)

@@ -1,16 +1,18 @@
 -- What holds of the broker at every moment of every run.
-use Rattle.std.specs.Prelude.{ℕ, ◌≡◌, ◌≢◌, ◌+◌, ◌==◌, ◌<◌, ◌≤◌, Bool, true, false, List, [], ◌∷◌, length, sum, Option, None, Some}
+use Rattle.std.specs.Prelude.{ℕ, ◌≡◌, ◌≢◌, ◌⊎◌, ◌+◌, ◌==◌, ◌<◌, ◌≤◌, Bool, true, false, List, [], ◌∷◌, length, sum, Option, None, Some}
 use Rattle.std.specs.List.{AllByRecursion}
-use Rattle.mj_base.specs.declared.event.Event.{Event}
 use Rattle.mj_base.specs.declared.limits.Limits.{Limits}
 use Rattle.mj_queue.specs.declared.request.Origin.{Origin}
 use Rattle.mj_queue.specs.declared.request.Origin.TheVariants as origins
 use Rattle.mj_queue.specs.declared.worker.Waiter.{Waiter}
 use Rattle.mj_machine.specs.declared.connection.Connection.{Connection}
 use Rattle.mj_machine.specs.declared.held.Held.{Held}
-use Rattle.mj_machine.specs.MachineState.{State, start}
+use Rattle.mj_machine.specs.StoreState.{Store, no_store, opened_store}
+use Rattle.mj_machine.specs.MachineState.{Machine, State}
 use Rattle.mj_machine.specs.Connections.{connection_of, is_asking, service_of}
+use Rattle.mj_machine.specs.EventStep.{Noted}
 use Rattle.mj_machine.specs.MachineRun.{run_state}
+use Rattle.mj_tickets.specs.declared.command.TicketCmd.{TicketCmd}
 use Rattle.mj_machine.specs.Steps.{run_steps}
 
 -- ---- workers
@@ -48,13 +50,13 @@ ServicesAgree s =
 -- ---- clients
 
 -- no ticket is queued without a store
-abbrev pub IsOfClient : List Connection → Origin → Type 0
-IsOfClient connections (origins.Client n) = is_asking (connection_of n connections) ≡ true
-IsOfClient connections (origins.Ticket n) = ⊥
+abbrev pub IsThere : Bool → List Connection → Origin → Type 0
+IsThere stored connections (origins.Client n) = is_asking (connection_of n connections) ≡ true
+IsThere stored connections (origins.Ticket n) = stored ≡ true
 
--- whoever has a request in the queue is there and is a client
-abbrev pub AskersAreThere : State → Type 0
-AskersAreThere s = AllByRecursion (λ r. IsOfClient s.connections r.origin) s.queue
+-- whoever has a request in the queue is there and is a client, or it is a ticket
+abbrev pub AskersAreThere : Bool → State → Type 0
+AskersAreThere stored s = AllByRecursion (λ r. IsThere stored s.connections r.origin) s.queue
 
 -- ---- connections
 
@@ -77,16 +79,22 @@ PiecesFit limits s =
     (s.limits ≡ limits)
     × AllByRecursion (λ c. (length c.outstanding ≤ limits.out_pieces) × (sum c.outstanding ≤ limits.out_octets)) s.connections
 
-pub record IsSound (limits : Limits) (s : State) : Type 0 where
+pub record IsSound (limits : Limits) (stored : Bool) (s : State) : Type 0 where
   pub once : WorkersStandOnce s
   pub services : ServicesAgree s
-  pub askers : AskersAreThere s
+  pub askers : AskersAreThere stored s
   pub numbers : NumbersAreFresh s
   pub lanes : LanesAreApart s
   pub pieces : PiecesFit limits s
 
 -- before and after each step, and at the end
-abbrev pub StaysSound : Limits → List Event → Type 0
-StaysSound limits events =
-    AllByRecursion (λ t. IsSound limits t.before × IsSound limits t.after) (run_steps limits (start limits) events)
-    × IsSound limits (run_state limits (start limits) events).state
+abbrev pub StaysSound : Limits → Machine → List Noted → Type 0
+StaysSound limits m events =
+    AllByRecursion (λ t. IsSound limits m.store.stored t.before.routing × IsSound limits m.store.stored t.after.routing) (run_steps limits m events)
+    × IsSound limits m.store.stored (run_state limits m events).state
+
+-- ---- where runs begin
+
+-- a run begins without a store, or over a file that was opened, whatever commands it has
+abbrev pub IsBegun : Store → Type 0
+IsBegun store = (store ≡ no_store) ⊎ ((seed : List ℕ) × (base : ℕ) × (commands : List TicketCmd) × (store ≡ opened_store seed base commands))

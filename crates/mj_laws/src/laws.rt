@@ -1,45 +1,57 @@
-ghost use Rattle.mj_base.specs.declared.event.Event.{Event};
 ghost use Rattle.mj_base.specs.declared.limits.Limits.{Limits as AnyLimits};
 ghost use Rattle.mj_laws.specs.Cuts.{CutsChangeNothing};
-ghost use Rattle.mj_laws.specs.NobodyWaits.{NobodyWaits};
+ghost use Rattle.mj_laws.specs.NobodyWaits.{EventsSettle, MessagesSettle, NobodyWaits};
 ghost use Rattle.mj_laws.specs.Replies.{OneReplyOfBytes, RepliesAreOwned};
 ghost use Rattle.mj_laws.specs.Requests.{LeasesEndInTime, OneRequestAtATime, RequestsArePaired};
-ghost use Rattle.mj_laws.specs.Soundness.{StaysSound};
+ghost use Rattle.mj_laws.specs.Soundness.{IsBegun, StaysSound};
+ghost use Rattle.mj_laws.specs.Storeless.{NothingIsKept};
+ghost use Rattle.mj_machine.specs.EventStep.{Noted};
+ghost use Rattle.mj_machine.specs.MachineState.{start_with};
+ghost use Rattle.mj_machine.specs.StoreState.{Store};
 ghost use Rattle.std.specs.Prelude.{List};
 
 /// A piece that can be read as a reply is put in a step that is a reply of a worker, in its version, which held a
 /// request of the client on the piece's lane for the service that it serves; and it is that reply in the request's
 /// service and version. Or it answers the client's own request, in that step, for a name that the broker answers
-/// itself (ZeroMQ RFC 8). Bytes can be read as one reply alone, so its service and version are the request's.
+/// itself (ZeroMQ RFC 8; with a store RFC 9), and is the answer; one of Titanic's says what is true of the store behind
+/// that step. Bytes can be read as one reply alone, so its service and version are the request's.
 pub fn replies_reach_their_asker()
-    ensures owned { (limits : AnyLimits) (events : List Event) → RepliesAreOwned limits events }
+    ensures owned { (limits : AnyLimits) (store : Store) (events : List Noted) → RepliesAreOwned limits (start_with limits store) events }
     ensures read { OneReplyOfBytes }
 {}
 
-/// No act of a run but a pair's own begins while a queued request's service has a waiting worker, and none is
-/// there at the end: so none is there after any message and any event.
+/// Behind each event, and behind each message in it, no queued request's service has a waiting worker. Without a
+/// store no act of a run but a pair's own begins while one has.
 pub fn nobody_waits_for_a_queued_service()
-    ensures { (limits : AnyLimits) (events : List Event) → NobodyWaits limits events }
+    ensures events { EventsSettle }
+    ensures messages { MessagesSettle }
+    ensures without { (limits : AnyLimits) (events : List Noted) → NobodyWaits limits events }
 {}
 
 /// Between two REQUESTs to one connection stands its final reply to the request that the first of the two handed
-/// over, its lease's end, or its leaving. Only handing over a queued request puts what can be read as a REQUEST, and a lease ends only once it
-/// has passed.
+/// over, its lease's end, or its leaving. Only handing over a queued request puts what can be read as a REQUEST, with
+/// that request's body or its ticket's, and a lease ends only once it has passed.
 pub fn one_request_at_a_time()
-    ensures between { (limits : AnyLimits) (events : List Event) → OneRequestAtATime limits events }
-    ensures paired { (limits : AnyLimits) (events : List Event) → RequestsArePaired limits events }
-    ensures leases { (limits : AnyLimits) (events : List Event) → LeasesEndInTime limits events }
+    ensures between { (limits : AnyLimits) (store : Store) (events : List Noted) → OneRequestAtATime limits (start_with limits store) events }
+    ensures paired { (limits : AnyLimits) (store : Store) (events : List Noted) → RequestsArePaired limits (start_with limits store) events }
+    ensures leases { (limits : AnyLimits) (store : Store) (events : List Noted) → LeasesEndInTime limits (start_with limits store) events }
 {}
 
 /// Before and after each step of a run: each worker waits once or holds one request, for its own service, and
-/// nobody else does; whoever has a request in the queue is there and is a client; no two connections share a number
-/// or a lane, and each number is below the next one; what is on its way to each peer is within the limits.
+/// nobody else does; whoever has a request in the queue is there and is a client, or it is a ticket and there is a
+/// store; no two connections share a number or a lane, and each number is below the next one; what is on its way to
+/// each peer is within the limits.
 pub fn numbers_and_lanes()
-    ensures { (limits : AnyLimits) (events : List Event) → StaysSound limits events }
+    ensures { (limits : AnyLimits) (store : Store) (events : List Noted) → IsBegun store → StaysSound limits (start_with limits store) events }
 {}
 
-/// However what comes on a lane is cut into pieces that follow each other: the same is done to all lanes, in the same
-/// order, and all that comes behind them finds the same state.
+/// However what comes on a lane is cut into pieces that follow each other: without a store the same is done to all
+/// lanes, in the same order, and all that comes behind them finds the same state.
 pub fn cuts_change_nothing()
     ensures { (limits : AnyLimits) → CutsChangeNothing limits }
+{}
+
+/// Without a store no ticket is ever queued or held, no act on a disk is made, and no note is given.
+pub fn nothing_is_kept_without_a_store()
+    ensures { (limits : AnyLimits) (events : List Noted) → NothingIsKept limits events }
 {}

@@ -4,6 +4,6 @@
 mod laws;
 
 pub use laws::{
-    cuts_change_nothing, nobody_waits_for_a_queued_service, numbers_and_lanes,
-    one_request_at_a_time, replies_reach_their_asker,
+    cuts_change_nothing, nobody_waits_for_a_queued_service, nothing_is_kept_without_a_store,
+    numbers_and_lanes, one_request_at_a_time, replies_reach_their_asker,
 };

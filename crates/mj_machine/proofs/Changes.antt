@@ -5,6 +5,7 @@ use Rattle.mj_base.specs.ServiceName.{is_reserved}
 use Rattle.mj_base.specs.declared.event.Note.TheVariants.{Shut as ShutNote}
 use Rattle.mj_base.specs.declared.event.Out.{Out}
 use Rattle.mj_base.specs.declared.event.Out.TheVariants.{End, Note, Piece}
+use Rattle.mj_base.specs.declared.limits.Limits.{Limits}
 use Rattle.mj_base.specs.declared.reason.Reason.{Reason}
 use Rattle.mj_client_cmd.specs.declared.command.ClientCmd.{ClientCmd}
 use Rattle.mj_greeting.specs.GreetingGrammar.{broker_greeting}
@@ -94,8 +95,8 @@ pub record IsAnswered (cause : Cause) (w0 : Whole) (n : ℕ) (piece : List ℕ) 
   pub reserved : is_reserved false cmd.service ≡ true
   pub text : piece ≡ reply_text true (request_of n cmd) (own_answer (told_by w0.store) (request_of n cmd) w0.routing)
 
--- its own question for a name that the broker answers itself where it has a store; w is where it is answered
-pub record IsServed (cause : Cause) (w0 w : Whole) (n : ℕ) (piece : List ℕ) : Type 0 where
+-- its own question for a name that the broker answers itself where it has a store, which is this one then
+pub record IsServed (cause : Cause) (w0 : Whole) (limits : Limits) (store : Store) (n : ℕ) (piece : List ℕ) : Type 0 where
   pub message : List (List ℕ)
   pub cause_is : Says cause n message
   pub cmd : ClientCmd
@@ -103,7 +104,7 @@ pub record IsServed (cause : Cause) (w0 w : Whole) (n : ℕ) (piece : List ℕ) 
   pub free : is_reserved false cmd.service ≡ false
   pub reserved : is_reserved w0.store.stored cmd.service ≡ true
   pub frames : List (List ℕ)
-  pub says : IsTitanicAnswer w.routing.limits cmd.service cmd.body w.store frames
+  pub says : IsTitanicAnswer limits cmd.service cmd.body store frames
   pub text : piece ≡ reply_text true (request_of n cmd) frames
 
 -- a worker's reply to its request
@@ -117,17 +118,17 @@ pub record IsDelivered (cause : Cause) (s0 : State) (n : ℕ) (piece : List ℕ)
   pub asks : is_asking (connection_of n s0.connections) ≡ true
   pub text : piece ≡ reply_text last reply.request reply.body
 
--- why an act that begins at w0 sends these bytes to a connection when it is at w
-pub data Why (cause : Cause) (w0 w : Whole) (n : ℕ) (piece : List ℕ) : Type 0 where
-  Greets : piece ≡ broker_greeting → Why cause w0 w n piece
-  Shakes : piece ≡ ready_frame Router → Why cause w0 w n piece
-  Refuses : (voice : Voice) → piece ≡ order_text voice order.Disconnect → Why cause w0 w n piece
-  Beats : (voice : Voice) → piece ≡ order_text voice order.Heartbeat → Why cause w0 w n piece
+-- why an act that begins at w0 sends these bytes to a connection, over this store
+pub data Why (cause : Cause) (w0 : Whole) (limits : Limits) (store : Store) (n : ℕ) (piece : List ℕ) : Type 0 where
+  Greets : piece ≡ broker_greeting → Why cause w0 limits store n piece
+  Shakes : piece ≡ ready_frame Router → Why cause w0 limits store n piece
+  Refuses : (voice : Voice) → piece ≡ order_text voice order.Disconnect → Why cause w0 limits store n piece
+  Beats : (voice : Voice) → piece ≡ order_text voice order.Heartbeat → Why cause w0 limits store n piece
   Hands : (p : Pair) → cause ≡ Paired p
-      → piece ≡ request_text (voice_of (connection_of p.waiter.worker w0.routing.connections)) (with_body (body_for p.request w0.store) p.request) → Why cause w0 w n piece
-  Answers : IsAnswered cause w0 n piece → Why cause w0 w n piece
-  Tells : IsServed cause w0 w n piece → Why cause w0 w n piece
-  Delivers : IsDelivered cause w0.routing n piece → Why cause w0 w n piece
+      → piece ≡ request_text (voice_of (connection_of p.waiter.worker w0.routing.connections)) (with_body (body_for p.request w0.store) p.request) → Why cause w0 limits store n piece
+  Answers : IsAnswered cause w0 n piece → Why cause w0 limits store n piece
+  Tells : IsServed cause w0 limits store n piece → Why cause w0 limits store n piece
+  Delivers : IsDelivered cause w0.routing n piece → Why cause w0 limits store n piece
 
 -- ---- changes of the store
 
@@ -202,7 +203,7 @@ HoldsNoPending n w = (request : Request) → held_by n w.routing.held ≡ Some r
 -- changed before anything is done to the lanes
 pub record IsCarried (cause : Cause) (w0 : Whole) (P : Doing Whole Out → Type 0) : Type 0 where
   pub marked : (n : ℕ) (w : Whole) (o : List Out) → P (w, o) → P (marked n w, o)
-  pub sends : (n : ℕ) (piece : List ℕ) (c : Connection) (w : Whole) (o : List Out) → Why cause w0 w n piece → connection_of n w.routing.connections ≡ Some c
+  pub sends : (n : ℕ) (piece : List ℕ) (c : Connection) (w : Whole) (o : List Out) → Why cause w0 w.routing.limits w.store n piece → connection_of n w.routing.connections ≡ Some c
       → is_slow w.routing.limits c (length piece) ≡ false → P (w, o)
       → P (on w (record w.routing { connections = changed n (sent w.routing.now (length piece)) w.routing.connections }), o ++ Piece c.lane piece ∷ [])
   pub reported : (n : ℕ) (w : Whole) (o : List Out) → P (w, o) → P (on w (record w.routing { connections = changed n delivered w.routing.connections }), o)

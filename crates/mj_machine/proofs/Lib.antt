@@ -17,5 +17,6 @@ pub mod SendWalk
 pub mod StoreWalk
 pub mod Walk
 pub mod StepWalk
+pub mod EventWalk
 pub mod AbsentLemmas
 pub mod NextLemmas

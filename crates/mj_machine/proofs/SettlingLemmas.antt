@@ -136,17 +136,17 @@ fails-less (Shut doubt) queue after step = step tt
 -- ---- sending
 
 -- a store that is shut tells of no pending ticket
-abbrev TellsNothing : Told → Type 0
+abbrev pub TellsNothing : Told → Type 0
 TellsNothing told = (n : ℕ) → told.pends n ≡ false
 
-shut-tells : (store : Store) → IsShut store.access → TellsNothing (told_by store)
+pub shut-tells : (store : Store) → IsShut store.access → TellsNothing (told_by store)
 shut-tells store = by store.access
   where
     by : (access : Access) → IsShut access → (n : ℕ) → pends_while access (tickets_of store) n ≡ false
     by Open shut n = absurd shut
     by (Shut doubt) shut n = refl
 
-nothing_back : (told : Told) → TellsNothing told → (held : Option Request) (queue : List Request) → given_back told held queue ≡ queue
+pub nothing_back : (told : Told) → TellsNothing told → (held : Option Request) (queue : List Request) → given_back told held queue ≡ queue
 nothing_back told none None queue = refl
 nothing_back told none (Some r) queue = by r.origin
   where

@@ -44,7 +44,7 @@ pub record IsAct (t : Step) : Type 0 where
   pub is : t ≡ step_of t.cause t.before (acts t.cause t.before)
   pub allowed : IsAllowed t.cause t.before.routing
 
-step-acts : (w : Whole) (t : Step) → IsStep w t → IsAct t
+pub step-acts : (w : Whole) (t : Step) → IsStep w t → IsAct t
 step-acts w t is = record {
   is =
       ap (λ (x : Whole). record { cause = t.cause; before = t.before; after = x; outs = t.outs }) is.after

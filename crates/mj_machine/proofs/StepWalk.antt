@@ -176,6 +176,30 @@ MayBegin Free cause s = (lane : ℕ) → cause ≡ Opening lane → Free s lane
 abbrev pub IsCarriedOn : (State → ℕ → Type 0) → (Whole → Type 0) → Type 0
 IsCarriedOn Free P = (cause : Cause) (w : Whole) → MayBegin Free cause w.routing → IsCarried cause w (λ d. P d.0)
 
+-- nothing is asked for
+abbrev pub AnyLane : State → ℕ → Type 0
+AnyLane s lane = Unit {0}
+
+-- each act by itself
+module _ (Free : State → ℕ → Type 0) (P : Whole → Type 0) (Around : Step → Type 0)
+    (one : (cause : Cause) (w : Whole) → IsAllowed cause w.routing → MayBegin Free cause w.routing → P w → Around (step_of cause w (acts cause w)) × P (acts cause w).0) where
+  expiry : (n : ℕ) (w : Whole) → P w → Stays Around P (expiry_step n w)
+  expiry n w p = let both = one (Expiry n) w tt (λ lane is. absurd (cc is)) p in record { steps = (both.0, tt); end = both.1 }
+
+  same-lane : (lane other : ℕ) → Opening lane ≡ Opening other → lane ≡ other
+  same-lane lane other same = cc same
+
+  pub walked-by : IsWalked Free P P Around
+  walked-by = record {
+    plain = λ cause w plain p. one cause w (plain-allowed cause w.routing plain) (λ lane is. absurd (subst IsPlain is plain)) p;
+    opens = λ lane w free p. one (Opening lane) w tt (λ other is. subst (Free w.routing) (same-lane lane other is) free) p;
+    leases = λ w p. let all = stays-each Around P expiry_step expiry (due_numbers w.routing) w p in (all.steps, all.end);
+    message = λ n message w p. one (Item n (items.Message message)) w tt (λ lane is. absurd (cc is)) p;
+    pairs = λ q w is p. one (Paired q) w is (λ lane other. absurd (cc other)) p;
+    eases = λ w p. p;
+    settled = λ w none p. p;
+  }
+
 module _ (Free : State → ℕ → Type 0) (P : Whole → Type 0) (invariant : IsCarriedOn Free P) where
   abbrev pub OnBothSides : Step → Type 0
   OnBothSides t = P t.before × P t.after
@@ -183,22 +207,8 @@ module _ (Free : State → ℕ → Type 0) (P : Whole → Type 0) (invariant : I
   around : (cause : Cause) (w : Whole) → IsAllowed cause w.routing → MayBegin Free cause w.routing → P w → OnBothSides (step_of cause w (acts cause w)) × P (acts cause w).0
   around cause w allowed free p = let now = walk-acts cause w (λ d. P d.0) (invariant cause w free) allowed p in ((p, now), now)
 
-  expiry : (n : ℕ) (w : Whole) → P w → Stays OnBothSides P (expiry_step n w)
-  expiry n w p = let both = around (Expiry n) w tt (λ lane is. absurd (cc is)) p in record { steps = (both.0, tt); end = both.1 }
-
-  same-lane : (lane other : ℕ) → Opening lane ≡ Opening other → lane ≡ other
-  same-lane lane other same = cc same
-
   pub walked-kept : IsWalked Free P P OnBothSides
-  walked-kept = record {
-    plain = λ cause w plain p. around cause w (plain-allowed cause w.routing plain) (λ lane is. absurd (subst IsPlain is plain)) p;
-    opens = λ lane w free p. around (Opening lane) w tt (λ other is. subst (Free w.routing) (same-lane lane other is) free) p;
-    leases = λ w p. let all = stays-each OnBothSides P expiry_step expiry (due_numbers w.routing) w p in (all.steps, all.end);
-    message = λ n message w p. around (Item n (items.Message message)) w tt (λ lane is. absurd (cc is)) p;
-    pairs = λ q w is p. around (Paired q) w is (λ lane other. absurd (cc other)) p;
-    eases = λ w p. p;
-    settled = λ w none p. p;
-  }
+  walked-kept = walked-by Free P OnBothSides around
 
   pub carried-settles : (w : Whole) → P w → P (settles w).0
   carried-settles w p = subst P (reads-settles w).state (stays-settling Free P P OnBothSides walked-kept w p).end
