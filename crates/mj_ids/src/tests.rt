@@ -15,10 +15,10 @@ fn ids_of_a_seed_of_zeros(rt: HostRuntime) {
     for (number, text) in rows {
         let id = TicketId::of(&seed, number);
         assert!(rt; id.text().as_slice() == text, "{number}");
-        assert_eq!(rt; id.number(), number);
+        assert!(rt; id.number() == number);
     }
-    assert_eq!(rt; TicketId::of(&seed, 1).octets(), FIRST_OCTETS);
-    assert_eq!(rt; TicketId::of(&seed, (1 << 62) - 1).number(), (1 << 62) - 1);
+    assert!(rt; TicketId::of(&seed, 1).octets() == FIRST_OCTETS);
+    assert!(rt; TicketId::of(&seed, (1 << 62) - 1).number() == (1 << 62) - 1);
 }
 
 #[test]

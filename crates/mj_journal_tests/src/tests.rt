@@ -101,31 +101,22 @@ fn three_appends_give_the_file_byte_for_byte(rt: HostRuntime) -> Result<(), Fail
         let Ok(mut opened) = open(alloc, &mut disk, 1) else {
             return Err("opening".into());
         };
-        assert_eq!(rt; opened.count, 0);
+        assert!(rt; opened.count == 0);
         assert!(rt; disk.as_slice() == header.as_slice());
-        assert_eq!(rt;
-            append(alloc, &mut opened.journal, &mut disk, ACCEPT),
-            Ok(())
-        );
-        assert_eq!(rt; opened.journal.end(), 51);
-        assert_eq!(rt;
-            append(alloc, &mut opened.journal, &mut disk, STORE),
-            Ok(())
-        );
-        assert_eq!(rt; opened.journal.end(), 74);
-        assert_eq!(rt;
-            append(alloc, &mut opened.journal, &mut disk, CLOSE),
-            Ok(())
-        );
-        assert_eq!(rt; opened.journal.end(), 88);
+        assert!(rt; append(alloc, &mut opened.journal, &mut disk, ACCEPT) == Ok(()));
+        assert!(rt; opened.journal.end() == 51);
+        assert!(rt; append(alloc, &mut opened.journal, &mut disk, STORE) == Ok(()));
+        assert!(rt; opened.journal.end() == 74);
+        assert!(rt; append(alloc, &mut opened.journal, &mut disk, CLOSE) == Ok(()));
+        assert!(rt; opened.journal.end() == 88);
         let file = disk.as_slice();
-        assert_eq!(rt; file.len(), 89);
+        assert!(rt; file.len() == 89);
         assert!(rt; file[..16] == header[..16]);
         assert!(rt; file[16..] == RECORDS[..]);
         let mut again = disk_of(alloc, disk.as_slice(), Vec::new(alloc), None)?;
         let opened = open(alloc, &mut again, 1).or(Err("opening"))?;
-        assert_eq!(rt; opened.count, 3);
-        assert_eq!(rt; opened.journal.end(), 88);
+        assert!(rt; opened.count == 3);
+        assert!(rt; opened.journal.end() == 88);
     }
     Ok(())
 }
@@ -141,14 +132,13 @@ fn a_stop_in_an_append_leaves_the_old_file_or_the_new(rt: HostRuntime) -> Result
         };
         let answer = append(alloc, &mut opened.journal, &mut disk, ACCEPT);
         if calls == 4 {
-            assert_eq!(rt; answer, Ok(()));
+            assert!(rt; answer == Ok(()));
             assert!(rt; opens_as(alloc, &disk, 1, 1)?);
         } else {
-            assert_eq!(rt; answer, Err(AppendFault::DiskFault));
+            assert!(rt; answer == Err(AppendFault::DiskFault));
             assert!(rt; opens_as(alloc, &disk, 0, 1)?);
-            assert_eq!(rt;
-                append(alloc, &mut opened.journal, &mut disk, ACCEPT),
-                Err(AppendFault::Spent)
+            assert!(rt;
+                append(alloc, &mut opened.journal, &mut disk, ACCEPT) == Err(AppendFault::Spent)
             );
         }
     }
@@ -165,13 +155,12 @@ fn each_failing_call_of_an_append_is_a_fault(rt: HostRuntime) -> Result<(), Fail
         let Ok(mut opened) = open(alloc, &mut disk, 1) else {
             return Err("opening".into());
         };
-        assert_eq!(rt;
-            append(alloc, &mut opened.journal, &mut disk, ACCEPT),
-            Err(AppendFault::DiskFault)
+        assert!(rt;
+            append(alloc, &mut opened.journal, &mut disk, ACCEPT) == Err(AppendFault::DiskFault)
         );
         assert!(rt; opens_as(alloc, &disk, 0, 1)?);
         let opened = open(alloc, &mut disk, 1).or(Err("opening"))?;
-        assert_eq!(rt; opened.count, payloads);
+        assert!(rt; opened.count == payloads);
     }
     Ok(())
 }
@@ -217,7 +206,7 @@ fn other_files_are_refused_by_name(rt: HostRuntime) -> Result<(), Fail> {
         let answer = open(alloc, &mut disk, 1);
         match answer {
             Ok(_) => return Err("it was opened".into()),
-            Err(met) => assert_eq!(rt; met, fault, "{file:?}"),
+            Err(met) => assert!(rt; met == fault, "{file:?}"),
         }
         assert!(rt; disk.as_slice() == file);
     }
@@ -247,7 +236,7 @@ fn a_file_cut_short_is_damaged_or_has_fewer_payloads(rt: HostRuntime) -> Result<
             75..89 => Err(OpenFault::Damaged(74)),
             _ => Ok(3),
         };
-        assert_eq!(rt; answer, wanted, "{len}");
+        assert!(rt; answer == wanted, "{len}");
     }
     Ok(())
 }
@@ -263,12 +252,12 @@ fn any_open_gate_will_do(rt: HostRuntime) -> Result<(), Fail> {
     let Ok(opened) = open(alloc, &mut disk, 1) else {
         return Err("opening".into());
     };
-    assert_eq!(rt; opened.count, 3);
+    assert!(rt; opened.count == 3);
     let mut into = [0; 9];
     if opened.journal.end() == 88 {
-        assert_eq!(rt; opened.journal.read(&mut disk, 79, &mut into), Ok(()));
+        assert!(rt; opened.journal.read(&mut disk, 79, &mut into) == Ok(()));
     }
-    assert_eq!(rt; into, *CLOSE);
+    assert!(rt; into == *CLOSE);
     Ok(())
 }
 
@@ -282,14 +271,14 @@ fn a_payload_is_handed_out_with_its_gate(rt: HostRuntime) -> Result<(), Fail> {
     let Ok(mut opening) = Opening::begin(&mut disk, 7) else {
         return Err("opening".into());
     };
-    assert_eq!(rt; opening.base(), 1);
+    assert!(rt; opening.base() == 1);
     let mut payload = Octets::new(alloc);
-    assert_eq!(rt; opening.next(alloc, &mut disk, &mut payload), Ok(true));
+    assert!(rt; opening.next(alloc, &mut disk, &mut payload) == Ok(true));
     assert!(rt; payload.as_slice() == ACCEPT.as_slice());
-    assert_eq!(rt; opening.gate(), 16);
-    assert_eq!(rt; opening.next(alloc, &mut disk, &mut payload), Ok(true));
+    assert!(rt; opening.gate() == 16);
+    assert!(rt; opening.next(alloc, &mut disk, &mut payload) == Ok(true));
     assert!(rt; payload.as_slice() == STORE.as_slice());
-    assert_eq!(rt; opening.gate(), 51);
+    assert!(rt; opening.gate() == 51);
     Ok(())
 }
 
@@ -300,21 +289,21 @@ fn a_file_in_the_making_is_no_store(rt: HostRuntime) -> Result<(), Fail> {
     let Ok(mut making) = Making::begin(&mut disk, 2) else {
         return Err("making".into());
     };
-    assert_eq!(rt; making.append(alloc, &mut disk, CLOSE), Ok(()));
-    assert_eq!(rt; making.append(alloc, &mut disk, STORE), Ok(()));
+    assert!(rt; making.append(alloc, &mut disk, CLOSE) == Ok(()));
+    assert!(rt; making.append(alloc, &mut disk, STORE) == Ok(()));
     let mut early = disk_of(alloc, disk.as_slice(), Vec::new(alloc), None)?;
     assert!(rt; open(alloc, &mut early, 1).is_err_and(|fault| fault == OpenFault::NotAStore));
     let Ok(mut journal) = making.finish(&mut disk) else {
         return Err("finishing".into());
     };
-    assert_eq!(rt; journal.end(), 53);
-    assert_eq!(rt; journal.append(alloc, &mut disk, CLOSE), Ok(()));
+    assert!(rt; journal.end() == 53);
+    assert!(rt; journal.append(alloc, &mut disk, CLOSE) == Ok(()));
     let Ok(mut opening) = Opening::begin(&mut disk, 1) else {
         return Err("opening".into());
     };
-    assert_eq!(rt; opening.base(), 2);
+    assert!(rt; opening.base() == 2);
     let mut payload = Octets::new(alloc);
-    assert_eq!(rt; opening.next(alloc, &mut disk, &mut payload), Ok(true));
+    assert!(rt; opening.next(alloc, &mut disk, &mut payload) == Ok(true));
     assert!(rt; payload.as_slice() == CLOSE.as_slice());
     assert!(rt; opens_as(alloc, &disk, 3, 3)?);
     Ok(())
@@ -338,19 +327,13 @@ fn a_real_file_is_opened_again(rt: HostRuntime) -> Result<(), Fail> {
     let Ok(mut opened) = open(alloc, &mut disk, 1) else {
         return Err("opening".into());
     };
-    assert_eq!(rt; opened.count, 0);
-    assert_eq!(rt;
-        append(alloc, &mut opened.journal, &mut disk, STORE),
-        Ok(())
-    );
-    assert_eq!(rt;
-        append(alloc, &mut opened.journal, &mut disk, CLOSE),
-        Ok(())
-    );
+    assert!(rt; opened.count == 0);
+    assert!(rt; append(alloc, &mut opened.journal, &mut disk, STORE) == Ok(()));
+    assert!(rt; append(alloc, &mut opened.journal, &mut disk, CLOSE) == Ok(()));
     let mut again = FileDisk::new(&rt, String::from_str(alloc, path)?);
     let opened = open(alloc, &mut again, 1).or(Err("opening"))?;
-    assert_eq!(rt; opened.count, 2);
-    assert_eq!(rt; opened.journal.end(), 53);
+    assert!(rt; opened.count == 2);
+    assert!(rt; opened.journal.end() == 53);
     fs::remove_file(&rt, path)?;
     Ok(())
 }

@@ -194,7 +194,7 @@ bytes 0 REPLY_A_TO_2
 
 #[test]
 fn clients_and_workers_are_routed_or_refused(rt: HostRuntime) -> Result<(), Fail> {
-    assert_eq!(rt; first_wrong_run(rt.alloc(), ROUTED)?, None);
+    assert!(rt; first_wrong_run(rt.alloc(), ROUTED)? == None);
     Ok(())
 }
 
@@ -333,7 +333,7 @@ bytes 0 REPLY_A_TO_2
 
 #[test]
 fn leases_end_and_heartbeats_are_sent(rt: HostRuntime) -> Result<(), Fail> {
-    assert_eq!(rt; first_wrong_run(rt.alloc(), LEASES)?, None);
+    assert!(rt; first_wrong_run(rt.alloc(), LEASES)? == None);
     Ok(())
 }
 
@@ -461,7 +461,7 @@ bytes 1 HEARTBEAT_TWO
 
 #[test]
 fn both_versions_are_spoken(rt: HostRuntime) -> Result<(), Fail> {
-    assert_eq!(rt; first_wrong_run(rt.alloc(), VERSIONS)?, None);
+    assert!(rt; first_wrong_run(rt.alloc(), VERSIONS)? == None);
     Ok(())
 }
 
@@ -500,8 +500,8 @@ fn a_request_of_the_greatest_size_is_queued(rt: HostRuntime) -> Result<(), Fail>
         add_line(&mut wanted, "put 0 READY")?;
         add_line(&mut wanted, last)?;
         add_line(&mut wanted, "done 20")?;
-        assert_eq!(rt; text.as_slice(), wanted.as_slice());
-        assert_eq!(rt; status, 0);
+        assert!(rt; text.as_slice() == wanted.as_slice());
+        assert!(rt; status == 0);
     }
     Ok(())
 }
@@ -525,7 +525,7 @@ fn a_peer_that_takes_nothing_is_cut_off(rt: HostRuntime) -> Result<(), Fail> {
     add_line(&mut wanted, "end 0 slow 114690")?;
     add_line(&mut wanted, "done 4099")?;
     let (text, status) = printed(rt.alloc(), &["-", "replay"], script.as_slice(), &[], &[])?;
-    assert_eq!(rt; text.as_slice(), wanted.as_slice());
-    assert_eq!(rt; status, 0);
+    assert!(rt; text.as_slice() == wanted.as_slice());
+    assert!(rt; status == 0);
     Ok(())
 }

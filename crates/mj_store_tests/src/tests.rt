@@ -39,16 +39,16 @@ fn a_ticket_is_accepted_answered_and_closed(rt: HostRuntime) -> Result<(), Fail>
         assert!(rt; id.text() == *ID_1);
         assert!(rt; store.look(&id) == TicketState::Pending);
         assert!(rt; disk.as_slice() == file_of(alloc, header, 35)?.as_slice());
-        assert_eq!(rt; disk.as_slice().len(), 52);
-        assert_eq!(rt; reply(alloc, &mut store, &mut disk, 1, b"hi!"), Ok(()));
+        assert!(rt; disk.as_slice().len() == 52);
+        assert!(rt; reply(alloc, &mut store, &mut disk, 1, b"hi!") == Ok(()));
         assert!(rt; store.look(&id) == TicketState::Stored);
         assert!(rt; disk.as_slice() == file_of(alloc, header, 58)?.as_slice());
-        assert_eq!(rt; disk.as_slice().len(), 75);
-        assert_eq!(rt; close(alloc, &mut store, &mut disk, 1), Ok(()));
+        assert!(rt; disk.as_slice().len() == 75);
+        assert!(rt; close(alloc, &mut store, &mut disk, 1) == Ok(()));
         assert!(rt; store.look(&id) == TicketState::Unknown);
         assert!(rt; disk.as_slice() == file_of(alloc, header, 72)?.as_slice());
-        assert_eq!(rt; disk.as_slice().len(), 89);
-        assert_eq!(rt; opened(alloc, disk.as_slice())?, Ok((2, 88)));
+        assert!(rt; disk.as_slice().len() == 89);
+        assert!(rt; opened(alloc, disk.as_slice())? == Ok((2, 88)));
     }
     Ok(())
 }
@@ -78,9 +78,8 @@ fn a_payload_that_is_no_command_or_unlawful_is_damage(rt: HostRuntime) -> Result
         let file = file_of(alloc, HEADER_2, 72)?;
         let mut bytes = Vec::from_slice(alloc, file.as_slice())?;
         *bytes.get_mut(at).ok_or("a byte")? = octet;
-        assert_eq!(rt;
-            opened(alloc, &bytes)?,
-            Err(OpenFault::Damaged(gate)),
+        assert!(rt;
+            opened(alloc, &bytes)? == Err(OpenFault::Damaged(gate)),
             "{at}"
         );
     }
@@ -160,10 +159,10 @@ fn a_file_of_format_1_goes_on_in_format_1(rt: HostRuntime) -> Result<(), Fail> {
     };
     assert!(rt; id.text() == *ID_2);
     let now = disk.as_slice();
-    assert_eq!(rt; now.len(), 124);
+    assert!(rt; now.len() == 124);
     assert!(rt; now.get(..16) == Some(HEADER_1.as_slice()));
     assert!(rt; now.get(16..88) == RECORDS.get(..72));
-    assert_eq!(rt; opened(alloc, now)?, Ok((3, 123)));
+    assert!(rt; opened(alloc, now)? == Ok((3, 123)));
     Ok(())
 }
 
@@ -179,7 +178,7 @@ fn a_call_that_fails_spends_the_store(rt: HostRuntime) -> Result<(), Fail> {
         match Store::open(alloc, &Limits::standard(), &mut disk) {
             Ok(mut store) => {
                 if let Err(fault) = body(alloc, &mut store, &mut disk, 1) {
-                    assert_eq!(rt; fault, BodyFault::DiskFault, "{call}");
+                    assert!(rt; fault == BodyFault::DiskFault, "{call}");
                     let again = body(alloc, &mut store, &mut disk, 1);
                     assert!(rt; matches!(&again, Err(BodyFault::Spent)), "{call}");
                     let other = accept(alloc, &mut store, &mut disk, b"hi");
@@ -187,10 +186,10 @@ fn a_call_that_fails_spends_the_store(rt: HostRuntime) -> Result<(), Fail> {
                     spent = spent.saturating_add(1);
                 }
             }
-            Err(fault) => assert_eq!(rt; fault, OpenFault::DiskFault, "{call}"),
+            Err(fault) => assert!(rt; fault == OpenFault::DiskFault, "{call}"),
         }
     }
-    assert_eq!(rt; spent, 1);
+    assert!(rt; spent == 1);
     Ok(())
 }
 
@@ -207,8 +206,8 @@ fn what_memory_knows_is_told(rt: HostRuntime) -> Result<(), Fail> {
         return Err("an accept".into());
     };
     assert!(rt; id == TicketId::of(&[0; 32], 2));
-    assert_eq!(rt; store.next(), 3);
-    assert_eq!(rt; store.end(), 107);
+    assert!(rt; store.next() == 3);
+    assert!(rt; store.end() == 107);
     for (number, is_open, is_pending) in [(0, false, false), (1, true, false), (2, true, true)] {
         assert!(rt; store.is_open(number) == is_open, "{number}");
         assert!(rt; store.is_pending(number) == is_pending, "{number}");

@@ -104,14 +104,14 @@ fn payloads_of_2_097_152_bytes_are_the_longest(rt: HostRuntime) -> Result<(), Fa
     let whole = frame.as_slice();
     let front = &whole[..whole.len().saturating_sub(1)];
     let payload = written(rt.alloc(), &store(rt.alloc(), 1, front)?)?;
-    assert_eq!(rt; payload.len(), 2_097_152);
+    assert!(rt; payload.len() == 2_097_152);
     assert!(rt; is_command(rt.alloc(), payload.as_slice())?);
     assert!(rt; !store(rt.alloc(), 1, whole)?.fits());
 
     let mut long = Octets::new(rt.alloc());
     long.push_all(b"S\0\0\0\0\0\0\0\x01\0\x01\0\x1f\xff\xf2")?;
     long.push_all(whole)?;
-    assert_eq!(rt; long.len(), 2_097_153);
+    assert!(rt; long.len() == 2_097_153);
     assert!(rt; !is_command(rt.alloc(), long.as_slice())?);
     Ok(())
 }
