@@ -5,7 +5,7 @@ use std::alloc::Global;
 use std::marker::Model;
 
 /// What an end wants done.
-#[derive(Debug, Drop)]
+#[derive(Drop)]
 pub enum Act {
     /// These bytes are to be written to the link.
     Write(Octets),
@@ -24,7 +24,7 @@ pub enum Act {
 }
 
 /// A list of acts, in the order in which they are to be done.
-#[derive(Debug, Drop)]
+#[derive(Drop)]
 pub struct Acts {
     acts: Vec<Act>,
 }

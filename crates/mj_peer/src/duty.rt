@@ -7,7 +7,7 @@ use super::verdict::Verdict;
 use mj_base::{Name, Version};
 
 /// What a worker's end was told and has counted.
-#[derive(Debug, Drop)]
+#[derive(Drop)]
 pub struct Duty {
     pub version: Version,
     pub service: Name,

@@ -32,7 +32,7 @@ pub struct Post {
 }
 
 /// A REQUEST: the address that its answer goes to, and its body.
-#[derive(Debug, Drop)]
+#[derive(Drop)]
 pub struct Handed {
     pub address: Octets,
     pub body: Frames,

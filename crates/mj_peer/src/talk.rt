@@ -6,7 +6,7 @@ use super::verdict::Verdict;
 use mj_base::{Frames, Name, Version};
 
 /// What a client's end was told and has counted.
-#[derive(Debug, Drop)]
+#[derive(Drop)]
 pub struct Talk {
     pub version: Version,
     pub service: Name,

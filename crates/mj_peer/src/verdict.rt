@@ -1,5 +1,5 @@
 /// What follows on a quiet event.
-#[derive(Clone, Copy, Debug, PartialEq, Eq)]
+#[derive(Clone, Copy)]
 pub enum Verdict {
     /// Nothing.
     Stay,
