@@ -1,5 +1,5 @@
 -- Laws of how far a source is read.
-use Rattle.std.proofs.Common.{◌≡◌, ◌+◌, ◌<◌, ◌≤◌, ◌⊎◌, ℕ, zero, suc, List, [], ◌++◌, Option, refl, sym, ap, ◌∙◌, subst, inl, inr, append-nil, arith}
+use Rattle.std.proofs.Common.{◌≡◌, ◌<◌, ◌⊎◌, ℕ, zero, suc, List, [], ◌++◌, Option, refl, sym, ap, ◌∙◌, subst, inl, inr, append-nil, arith}
 use Rattle.mj_base.specs.declared.event.Event.{Event}
 use Rattle.mj_prog.specs.Script.{ending_in, lines_of, ended_part}
 use Rattle.mj_prog.specs.ReadSoFar.{HasNoNewline, IsSoFar}

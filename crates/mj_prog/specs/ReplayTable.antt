@@ -5,7 +5,7 @@ use Rattle.mj_base.specs.Rising.{Rose}
 use Rattle.mj_base.specs.Writing.{AppendsFront}
 use Rattle.mj_base.specs.StandardLimits.{standard_limits}
 use Rattle.mj_machine.specs.MachineState.{start}
-use Rattle.mj_machine.specs.MachineRun.{run_outs}
+use Rattle.mj_machine.specs.MachineRun.{plainly, run_outs}
 use Rattle.mj_prog.specs.Script.{Ending, WithText, AtStop, AtUnlawful, script, IsLawful, ended_part}
 use Rattle.mj_prog.specs.SinkCounts.{SinkCounts}
 use Rattle.mj_prog.specs.Shown.{shown, done_line, fault_line, fault_read}
@@ -15,9 +15,9 @@ abbrev pub IsInput : Option (List ℕ) → List ℕ → Type 0
 IsInput None text = length text ≤ 2 ^ 40
 IsInput (Some all) text = text ≡ take (2 ^ 40) all
 
--- the lines of all that the machine does over the script's events
+-- the lines of all that the machine does without a store over the script's events
 abbrev pub printed : ℕ → List ℕ → List ℕ
-printed lanes text = shown (run_outs standard_limits (start standard_limits) (script lanes text).events)
+printed lanes text = shown (run_outs standard_limits (start standard_limits) (plainly (script lanes text).events))
 
 abbrev pub last_line : Ending → ℕ → List ℕ
 last_line WithText events = done_line events

@@ -10,7 +10,7 @@ use Rattle.mj_base.specs.StandardLimits.{standard_limits}
 use Rattle.mj_broker.specs.declared.broker.Broker.{Broker}
 use Rattle.mj_machine.specs.MachineState.{Machine, start}
 use Rattle.mj_machine.specs.EventStep.{state_after, outs_of}
-use Rattle.mj_machine.specs.MachineRun.{run_state, run_outs}
+use Rattle.mj_machine.specs.MachineRun.{plain, plainly, run_state, run_outs}
 use Rattle.mj_broker.specs.BrokerState.{IsAt}
 use Rattle.mj_prog.specs.declared.turn.Halt.{Halt}
 use Rattle.mj_prog.specs.declared.turn.Halt.TheVariants as halts
@@ -27,16 +27,16 @@ Prints old new writes.Failed text = AppendsFront old new text
 
 -- the broker took an event and what it does was printed
 abbrev pub Takes : Broker → Option (List ℕ) → Option (List ℕ) → Event → WriteAnswer → Machine → Type 0
-Takes now old new event writes.Done state = IsAt standard_limits now (state_after standard_limits state event) × Appends old new (shown (outs_of standard_limits state event))
-Takes now old new event writes.NoMemory state = AppendsFront old new (shown (outs_of standard_limits state event))
-Takes now old new event writes.Failed state = AppendsFront old new (shown (outs_of standard_limits state event))
+Takes now old new event writes.Done state = IsAt standard_limits now (state_after standard_limits state (plain event)) × Appends old new (shown (outs_of standard_limits state (plain event)))
+Takes now old new event writes.NoMemory state = AppendsFront old new (shown (outs_of standard_limits state (plain event)))
+Takes now old new event writes.Failed state = AppendsFront old new (shown (outs_of standard_limits state (plain event)))
 
 -- a run that took so many events and printed what they give
 pub record IsRunning (from left : Option (List ℕ)) (lanes : ℕ) (pending : List ℕ) (room lines : ℕ) (broker : Broker) (old new : Option (List ℕ)) (events : ℕ) : Type 0 where
   pub taken : List Event
   pub so_far : IsSoFar from left lanes pending room lines taken
-  pub state : IsAt standard_limits broker (run_state standard_limits (start standard_limits) taken)
-  pub prints : Appends old new (shown (run_outs standard_limits (start standard_limits) taken))
+  pub state : IsAt standard_limits broker (run_state standard_limits (start standard_limits) (plainly taken))
+  pub prints : Appends old new (shown (run_outs standard_limits (start standard_limits) (plainly taken)))
   pub count : events ≡ length taken
 
 -- where a run stands as it ends

@@ -10,6 +10,9 @@ ghost use Rattle.mj_laws.specs.NobodyWaits.{NobodyWaits};
 ghost use Rattle.mj_laws.specs.Replies.{RepliesAreOwned};
 ghost use Rattle.mj_laws.specs.Requests.{LeasesEndInTime, OneRequestAtATime, RequestsArePaired};
 ghost use Rattle.mj_laws.specs.Soundness.{StaysSound};
+ghost use Rattle.mj_laws.specs.Storeless.{NothingIsKept};
+ghost use Rattle.mj_machine.specs.MachineState.{start};
+ghost use Rattle.mj_machine.specs.MachineRun.{plainly};
 ghost use Rattle.mj_prog.specs.ReplayTable.{IsInput, IsDone, IsRefused, IsCutOff, IsUnwritten, IsUnread, AppendsLine, AnswersFor};
 ghost use Rattle.mj_prog.specs.Statuses.{IsStatus};
 ghost use Rattle.mj_prog.specs.StatusRows.{IsRow};
@@ -44,13 +47,14 @@ pub fn tool<S: Source, K: Sink>(alloc: Global, words: &[String], src: &mut S, ou
     ensures no_further { IfSome (options_in (map string_bytes words.now)) (λ options. ReadsNoFurther options.lanes (S.left src.old) (S.last src.old) (S.last src.new)) }
     ensures misses { S.misses src.new ≤ S.misses src.old + 1 }
 
-    // What users rely on, in each step of the machine's run over the script's events.
-    ensures replies { IfSome (options_in (map string_bytes words.now)) (λ options. (text : List ℕ) → IsInput (S.left src.old) text → RepliesAreOwned standard_limits (script options.lanes text).events) }
-    ensures requests { IfSome (options_in (map string_bytes words.now)) (λ options. (text : List ℕ) → IsInput (S.left src.old) text → OneRequestAtATime standard_limits (script options.lanes text).events) }
-    ensures paired { IfSome (options_in (map string_bytes words.now)) (λ options. (text : List ℕ) → IsInput (S.left src.old) text → RequestsArePaired standard_limits (script options.lanes text).events) }
-    ensures leases { IfSome (options_in (map string_bytes words.now)) (λ options. (text : List ℕ) → IsInput (S.left src.old) text → LeasesEndInTime standard_limits (script options.lanes text).events) }
-    ensures waiting { IfSome (options_in (map string_bytes words.now)) (λ options. (text : List ℕ) → IsInput (S.left src.old) text → NobodyWaits standard_limits (script options.lanes text).events) }
-    ensures sound { IfSome (options_in (map string_bytes words.now)) (λ options. (text : List ℕ) → IsInput (S.left src.old) text → StaysSound standard_limits (script options.lanes text).events) }
+    // What users rely on, in each step of the machine's run over the script's events, without a store.
+    ensures replies { IfSome (options_in (map string_bytes words.now)) (λ options. (text : List ℕ) → IsInput (S.left src.old) text → RepliesAreOwned standard_limits (start standard_limits) (plainly (script options.lanes text).events)) }
+    ensures requests { IfSome (options_in (map string_bytes words.now)) (λ options. (text : List ℕ) → IsInput (S.left src.old) text → OneRequestAtATime standard_limits (start standard_limits) (plainly (script options.lanes text).events)) }
+    ensures paired { IfSome (options_in (map string_bytes words.now)) (λ options. (text : List ℕ) → IsInput (S.left src.old) text → RequestsArePaired standard_limits (start standard_limits) (plainly (script options.lanes text).events)) }
+    ensures leases { IfSome (options_in (map string_bytes words.now)) (λ options. (text : List ℕ) → IsInput (S.left src.old) text → LeasesEndInTime standard_limits (start standard_limits) (plainly (script options.lanes text).events)) }
+    ensures waiting { IfSome (options_in (map string_bytes words.now)) (λ options. (text : List ℕ) → IsInput (S.left src.old) text → NobodyWaits standard_limits (plainly (script options.lanes text).events)) }
+    ensures sound { IfSome (options_in (map string_bytes words.now)) (λ options. (text : List ℕ) → IsInput (S.left src.old) text → StaysSound standard_limits (start standard_limits) (plainly (script options.lanes text).events)) }
+    ensures storeless { IfSome (options_in (map string_bytes words.now)) (λ options. (text : List ℕ) → IsInput (S.left src.old) text → NothingIsKept standard_limits (plainly (script options.lanes text).events)) }
 {
     code(run_tool(alloc, words, src, out))
 }

@@ -1,5 +1,5 @@
-use Rattle.std.proofs.Common.{ℕ, ◌+◌, ◌∙◌, subst, arith}
-use Rattle.mj_prog.specs.Running.{IsHalted, IsRunning}
+use Rattle.std.proofs.Common.{ℕ, ◌∙◌, subst, arith}
+use Rattle.mj_prog.specs.Running.{IsHalted}
 use Rattle.mj_prog.specs.Reads.{ReadsNoFurther}
 use Rattle.mj_prog.proofs.ReadingStops.{further, stops-on}
 use Rattle.mj_prog.proofs.run.run_script.Goals as goal

@@ -1,4 +1,4 @@
-use Rattle.std.proofs.Common.{map, string_bytes, ap, ◌∙◌}
+use Rattle.std.proofs.Common.{map, string_bytes, refl, ap, inl, ◌∙◌}
 use Rattle.mj_prog.specs.declared.status.Status.TheVariants as statuses
 use Rattle.mj_prog.specs.SinkCounts.{counted}
 use Rattle.mj_prog.specs.Words.{options_in}
@@ -8,12 +8,17 @@ use Rattle.mj_laws.specs.NobodyWaits.{NobodyWaits}
 use Rattle.mj_laws.specs.Replies.{RepliesAreOwned}
 use Rattle.mj_laws.specs.Requests.{LeasesEndInTime, OneRequestAtATime, RequestsArePaired}
 use Rattle.mj_laws.specs.Soundness.{StaysSound}
+use Rattle.mj_laws.specs.Storeless.{NothingIsKept}
+use Rattle.mj_machine.specs.StoreState.{no_store}
+use Rattle.mj_machine.specs.MachineState.{start}
+use Rattle.mj_machine.specs.MachineRun.{plainly}
 use Rattle.mj_laws.proofs.ReplyLemmas.{replies_are_owned}
 use Rattle.mj_laws.proofs.RequestLemmas.{one_request_at_a_time}
 use Rattle.mj_laws.proofs.PairedLemmas.{requests_are_paired}
 use Rattle.mj_laws.proofs.LeaseLemmas.{leases_end_in_time}
 use Rattle.mj_laws.proofs.SettledLemmas.{nobody_waits}
 use Rattle.mj_laws.proofs.SoundLemmas.{stays-sound}
+use Rattle.mj_laws.proofs.StorelessLemmas.{nothing_is_kept}
 use Rattle.mj_prog.proofs.RunLaws.{over-each}
 use Rattle.mj_prog.proofs.StatusLaws.{status-is, row-of, answers}
 use Rattle.mj_prog.proofs.top_call.tool.Goals as goal
@@ -67,19 +72,22 @@ pub returns-clause-statuses : goal.returns-clause-statuses
 returns-clause-statuses g c = (c.run_tool.result, c.code.ensures)
 
 pub returns-clause-replies : goal.returns-clause-replies
-returns-clause-replies g c = over-each (RepliesAreOwned standard_limits) (replies_are_owned standard_limits) (g.S.Source.left c.args.src.now) (options_in (map string_bytes c.args.words.now))
+returns-clause-replies g c = over-each (λ events. RepliesAreOwned standard_limits (start standard_limits) (plainly events)) (λ events. replies_are_owned standard_limits no_store (plainly events)) (g.S.Source.left c.args.src.now) (options_in (map string_bytes c.args.words.now))
 
 pub returns-clause-requests : goal.returns-clause-requests
-returns-clause-requests g c = over-each (OneRequestAtATime standard_limits) (one_request_at_a_time standard_limits) (g.S.Source.left c.args.src.now) (options_in (map string_bytes c.args.words.now))
+returns-clause-requests g c = over-each (λ events. OneRequestAtATime standard_limits (start standard_limits) (plainly events)) (λ events. one_request_at_a_time standard_limits no_store (plainly events)) (g.S.Source.left c.args.src.now) (options_in (map string_bytes c.args.words.now))
 
 pub returns-clause-paired : goal.returns-clause-paired
-returns-clause-paired g c = over-each (RequestsArePaired standard_limits) (requests_are_paired standard_limits) (g.S.Source.left c.args.src.now) (options_in (map string_bytes c.args.words.now))
+returns-clause-paired g c = over-each (λ events. RequestsArePaired standard_limits (start standard_limits) (plainly events)) (λ events. requests_are_paired standard_limits no_store (plainly events)) (g.S.Source.left c.args.src.now) (options_in (map string_bytes c.args.words.now))
 
 pub returns-clause-leases : goal.returns-clause-leases
-returns-clause-leases g c = over-each (LeasesEndInTime standard_limits) (leases_end_in_time standard_limits) (g.S.Source.left c.args.src.now) (options_in (map string_bytes c.args.words.now))
+returns-clause-leases g c = over-each (λ events. LeasesEndInTime standard_limits (start standard_limits) (plainly events)) (λ events. leases_end_in_time standard_limits no_store (plainly events)) (g.S.Source.left c.args.src.now) (options_in (map string_bytes c.args.words.now))
 
 pub returns-clause-waiting : goal.returns-clause-waiting
-returns-clause-waiting g c = over-each (NobodyWaits standard_limits) (nobody_waits standard_limits) (g.S.Source.left c.args.src.now) (options_in (map string_bytes c.args.words.now))
+returns-clause-waiting g c = over-each (λ events. NobodyWaits standard_limits (plainly events)) (λ events. nobody_waits standard_limits (plainly events)) (g.S.Source.left c.args.src.now) (options_in (map string_bytes c.args.words.now))
 
 pub returns-clause-sound : goal.returns-clause-sound
-returns-clause-sound g c = over-each (StaysSound standard_limits) (stays-sound standard_limits) (g.S.Source.left c.args.src.now) (options_in (map string_bytes c.args.words.now))
+returns-clause-sound g c = over-each (λ events. StaysSound standard_limits (start standard_limits) (plainly events)) (λ events. stays-sound standard_limits no_store (plainly events) (inl refl)) (g.S.Source.left c.args.src.now) (options_in (map string_bytes c.args.words.now))
+
+pub returns-clause-storeless : goal.returns-clause-storeless
+returns-clause-storeless g c = over-each (λ events. NothingIsKept standard_limits (plainly events)) (λ events. nothing_is_kept standard_limits (plainly events)) (g.S.Source.left c.args.src.now) (options_in (map string_bytes c.args.words.now))
