@@ -1,13 +1,13 @@
 -- The commands of the file stay lawful, with the one in doubt too.
-use Rattle.std.proofs.Common.{◌≡◌, ◌≢◌, ◌≤◌, ◌<◌, ◌+◌, ◌==◌, ◌^◌, ◌||◌, ◌&&◌, nat_le, nat_lt, ℕ, suc, Bool, true, false, cond, map, List, [], ◌∷◌, ◌++◌, length, Option, None, Some, refl, sym, ap, subst, ◌∙◌, inl, inr, arith, append-nil, length-append}
+use Rattle.std.proofs.Common.{◌≡◌, ◌≤◌, ◌<◌, ◌^◌, ◌||◌, nat_le, nat_lt, ℕ, suc, Bool, true, false, cond, map, List, [], ◌∷◌, ◌++◌, length, Option, None, Some, refl, sym, ap, subst, ◌∙◌, inl, inr, arith, append-nil, length-append}
 use Rattle.std.specs.Option.{unwrap_or}
-use Rattle.std.specs.List.{AllByRecursion, find}
+use Rattle.std.specs.List.{find}
 use Rattle.std.proofs.lemmas.Bool.Decides.{leb_tells}
 use Rattle.std.proofs.lemmas.List.{length-map}
 use Rattle.mj_base.specs.declared.limits.Limits.{Limits}
 use Rattle.mj_ids.specs.Ids.{id_of, number_of}
 use Rattle.mj_ids.proofs.NumberLemmas.{number-id_of}
-use Rattle.mj_journal.specs.FileText.{end_of, sizes}
+use Rattle.mj_journal.specs.FileText.{sizes}
 use Rattle.mj_tickets.specs.declared.command.TicketCmd.{TicketCmd}
 use Rattle.mj_tickets.specs.declared.command.TicketCmd.TheVariants as cmds
 use Rattle.mj_tickets.specs.Payload.{body_of, payload_of}
@@ -15,10 +15,10 @@ use Rattle.mj_tickets.specs.Fold.{Fold, Ticket, accepted, applied, closed, fold_
 use Rattle.mj_tickets.specs.Laws.{AreNumbered}
 use Rattle.mj_tickets.proofs.FoldLemmas.{fold_few, fold_numbered, new_ticket, one_of_number}
 use Rattle.mj_machine.specs.StoreState.{Access, Open, Shut, Store, doubted, file_length, pends, tickets_of}
-use Rattle.mj_machine.specs.MachineState.{State, Whole}
+use Rattle.mj_machine.specs.MachineState.{Whole}
 use Rattle.mj_machine.specs.DiskActs.{found_in, with_found}
 use Rattle.mj_machine.specs.TitanicStep.{is_full}
-use Rattle.mj_machine.proofs.Changes.{Accepting, Closing, IsDoubt, IsMade, NoDoubt, Remains, Storing, Tried, accepts_next}
+use Rattle.mj_machine.proofs.Changes.{Accepting, Closing, IsDoubt, IsMade, NoDoubt, Remains, Storing, Tried}
 use Rattle.mj_machine.proofs.ConnectionLemmas.{agrees}
 use Rattle.mj_machine.proofs.FoldLemmas.{Bodies, close-applies, fold-more, store-applies}
 use Rattle.mj_laws.specs.Kept.{IsLawfulList}

@@ -23,3 +23,5 @@ pub mod ShutLemmas
 pub mod TellLemmas
 pub mod TicketCounts
 pub mod FileLemmas
+pub mod PendingLemmas
+pub mod ConservedLemmas

@@ -1,7 +1,7 @@
 -- The notes of an event are those of its acts.
-use Rattle.std.proofs.Common.{◌≡◌, ◌≤◌, ◌<◌, ◌+◌, ◌==◌, ◌||◌, ◌&&◌, ◌⊎◌, nat_lt, ℕ, suc, Bool, true, false, List, [], ◌∷◌, ◌++◌, Option, None, Some, is_some, refl, sym, ap, subst, ◌∙◌, inl, inr, arith, append-nil}
+use Rattle.std.proofs.Common.{◌≡◌, ◌≤◌, ◌<◌, ◌+◌, ◌==◌, ◌||◌, ◌&&◌, ◌⊎◌, nat_lt, ℕ, suc, Bool, true, false, List, [], ◌∷◌, ◌++◌, Option, is_some, refl, sym, ap, subst, ◌∙◌, inl, inr, arith, append-nil}
 use Rattle.std.specs.List.{list_any}
-use Rattle.std.proofs.lemmas.Bool.Decides.{eqb_tells, leb_tells}
+use Rattle.std.proofs.lemmas.Bool.Decides.{leb_tells}
 use Rattle.mj_base.specs.declared.event.Note.{Note as AnyNote}
 use Rattle.mj_base.specs.declared.event.Note.TheVariants.{Again, Shut}
 use Rattle.mj_base.specs.declared.event.Out.{Out}
@@ -9,7 +9,7 @@ use Rattle.mj_base.specs.declared.event.Out.TheVariants.{Note}
 use Rattle.mj_base.specs.declared.limits.Limits.{Limits}
 use Rattle.mj_tickets.specs.declared.command.TicketCmd.{TicketCmd}
 use Rattle.mj_machine.specs.MachineState.{Machine, Whole, entered}
-use Rattle.mj_machine.specs.Acts.{Doing, behind, quiet}
+use Rattle.mj_machine.specs.Acts.{Doing, behind}
 use Rattle.mj_machine.specs.DiskActs.{finds, found_in, notes_in, says_found, says_shut}
 use Rattle.mj_machine.specs.EventStep.{Noted, happening}
 use Rattle.mj_machine.specs.Steps.{Cause, IsAllowed, acts}

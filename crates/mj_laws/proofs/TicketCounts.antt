@@ -1,13 +1,12 @@
 -- How often tickets stand in the queue and with workers, after each change.
-use Rattle.std.proofs.Common.{◌≡◌, ◌≢◌, ◌≤◌, ◌<◌, ◌+◌, ◌==◌, ◌||◌, ◌&&◌, ℕ, Bool, true, false, not, cond, map, List, [], ◌∷◌, ◌++◌, Option, None, Some, refl, sym, ap, subst, ◌∙◌, inl, inr, arith}
+use Rattle.std.proofs.Common.{◌≡◌, ◌≢◌, ◌≤◌, ◌<◌, ◌+◌, ◌==◌, ◌||◌, ◌&&◌, ℕ, Bool, true, false, not, cond, map, List, [], ◌∷◌, ◌++◌, Option, None, Some, refl, sym, ap, subst, ◌∙◌, arith}
 use Rattle.std.specs.Option.{option_map}
-use Rattle.std.specs.List.{AllByRecursion, filter, find, list_any}
-use Rattle.std.proofs.lemmas.Bool.Decides.{eqb_tells}
+use Rattle.std.specs.List.{AllByRecursion, filter, find}
 use Rattle.mj_queue.specs.Settling.{is_client, is_of_client, is_ticket, without_client, without_ticket}
 use Rattle.mj_queue.specs.declared.request.Origin.{Origin}
 use Rattle.mj_queue.specs.declared.request.Origin.TheVariants as origins
 use Rattle.mj_queue.specs.declared.request.Request.{Request}
-use Rattle.mj_tickets.specs.Fold.{Fold, Ticket, is_pending, number_in, numbered, RisesTo}
+use Rattle.mj_tickets.specs.Fold.{Ticket, is_pending, number_in, numbered, RisesTo}
 use Rattle.mj_tickets.proofs.RisingLemmas.{all_above}
 use Rattle.mj_machine.specs.declared.held.Held.{Held}
 use Rattle.mj_machine.specs.StoreState.{Told, holds_ticket, is_pending_one, ticket_request}
@@ -109,7 +108,7 @@ held-released n k (h ∷ held) few = by (h.worker == n) few (held-same n k held)
 
 -- ---- what is given back
 
-one_at_most : (b : Bool) → one_if b ≤ 1
+pub one_at_most : (b : Bool) → one_if b ≤ 1
 one_at_most true = omega arith
 one_at_most false = omega arith
 
