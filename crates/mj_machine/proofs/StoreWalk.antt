@@ -190,9 +190,9 @@ module _ (cause : Cause) (w0 : Whole) (P : Doing Whole Out → Type 0) (carried 
             (Tried (accepts_next asked.0 asked.1 v) refl ready (Accepting asked.0 asked.1 refl has room)) only p
             (λ u r shut notes s. walk-tells (Some Submits) is _ u r (says-submit asked read u _ (inl (shut, refl))) s)
             (λ works.
-              walk-tells (Some Submits) is (codes "200" ∷ text_of (id_of v.store.seed (tickets_of v.store).next) ∷ []) (accepted_at asked.0 asked.1 v) q
-              (says-submit asked read (accepted_at asked.0 asked.1 v) _ (inr (inr (v.store.commands, refl, refl))))
-              (carried.accepts asked.0 asked.1 v q ready has room works only p))
+            walk-tells (Some Submits) is (codes "200" ∷ text_of (id_of v.store.seed (tickets_of v.store).next) ∷ []) (accepted_at asked.0 asked.1 v) q
+            (says-submit asked read (accepted_at asked.0 asked.1 v) _ (inr (inr (v.store.commands, refl, refl))))
+            (carried.accepts asked.0 asked.1 v q ready has room works only p))
 
     walk-submits : (asked : Option (List ℕ × List (List ℕ))) → Is (Some Submits) → Reads asked → (w : Whole) → w.store ≡ w0.store → P (quiet w) → P (submits n Asked asked w)
     walk-submits None is read w same p =
@@ -247,9 +247,9 @@ module _ (cause : Cause) (w0 : Whole) (P : Doing Whole Out → Type 0) (carried 
         (Tried (cmds.Close ticket.number) refl ready (Closing ticket id refl found)) only p
         (λ u r shut notes s. walk-tells (Some Finishes) is _ u r (says-finish id read u _ (inl (shut, refl))) s)
         (λ works.
-          walk-tells (Some Finishes) is _ (closed_at ticket.number v) q
-          (says-finish id read (closed_at ticket.number v) _ (inr (ready, inr (v.store.commands, ticket, found, refl), refl)))
-          (carried.closes ticket id v q ready found works only p))
+        walk-tells (Some Finishes) is _ (closed_at ticket.number v) q
+        (says-finish id read (closed_at ticket.number v) _ (inr (ready, inr (v.store.commands, ticket, found, refl), refl)))
+        (carried.closes ticket id v q ready found works only p))
 
     walk-finishes : (id : Option (List ℕ)) → Is (Some Finishes) → Names id → (w : Whole) → P (quiet w) → P (finishes n Asked id w)
     walk-finishes None is read w p =

@@ -102,8 +102,8 @@ quiets-goes v n ended c s l = of c.talk.request
 
     counts : (body : List (List ℕ)) (few more : Bool)
         → Outcome v n
-          (ends (follows (cond few (cond ended Again Stay) (cond more Again Lost)) (record c { talk = cond few (record c.talk { quiet = c.talk.quiet + 1 }) (cond more (record c.talk { tried = c.talk.tried + 1; quiet = 0 }) (record c.talk { over = true; request = None })) })))
-          (follows (cond few (cond ended Again Stay) (cond more Again Lost)) (record c { talk = cond few (record c.talk { quiet = c.talk.quiet + 1 }) (cond more (record c.talk { tried = c.talk.tried + 1; quiet = 0 }) (record c.talk { over = true; request = None })) })) s
+        (ends (follows (cond few (cond ended Again Stay) (cond more Again Lost)) (record c { talk = cond few (record c.talk { quiet = c.talk.quiet + 1 }) (cond more (record c.talk { tried = c.talk.tried + 1; quiet = 0 }) (record c.talk { over = true; request = None })) })))
+        (follows (cond few (cond ended Again Stay) (cond more Again Lost)) (record c { talk = cond few (record c.talk { quiet = c.talk.quiet + 1 }) (cond more (record c.talk { tried = c.talk.tried + 1; quiet = 0 }) (record c.talk { over = true; request = None })) })) s
     counts body true more = wait ended (record c.talk { quiet = c.talk.quiet + 1 }) (counts-live v n c (record c.talk { quiet = c.talk.quiet + 1 }) s l refl refl refl)
     counts body false true =
         again v n (record c { talk = record c.talk { tried = c.talk.tried + 1; quiet = 0 } }) s (counts-live v n c (record c.talk { tried = c.talk.tried + 1; quiet = 0 }) s l refl refl refl)
