@@ -1,15 +1,15 @@
 -- Every run of a worker's end is right.
-use Rattle.std.proofs.Common.{◌≡◌, ℕ, zero, suc, Bool, true, false, ◌||◌, ◌&&◌, List, [], ◌∷◌, ◌++◌, map, refl, sym, ap, subst, ◌∙◌, cond, Option, None, Some, append_assoc, append-nil, inl, inr, drop}
-use Rattle.std.specs.Prelude.{◌⊎◌, nat_lt, nat_le, ◌-◌, ◌+◌, ◌%◌, ◌==◌, replicate, option_to_list}
+use Rattle.std.proofs.Common.{◌≡◌, ℕ, zero, suc, Bool, true, false, ◌||◌, List, [], ◌∷◌, ◌++◌, map, refl, sym, ap, subst, ◌∙◌, cond, Option, None, Some, append_assoc, append-nil, inl, inr, drop}
+use Rattle.std.specs.Prelude.{◌⊎◌, nat_lt, ◌-◌, ◌+◌, ◌%◌, ◌==◌, replicate, option_to_list}
 use Rattle.std.proofs.lemmas.List.{map-append}
 use Rattle.std.proofs.lemmas.List.Folds.{list_any-append}
-use Rattle.std.specs.List.{AllByRecursion, list_any}
+use Rattle.std.specs.List.{list_any}
 use Rattle.mj_base.specs.declared.link.LinkEvent.{LinkEvent}
 use Rattle.mj_base.specs.declared.link.LinkEvent.TheVariants as event
 use Rattle.mj_base.specs.declared.version.Version.{Version}
 use Rattle.mj_base.specs.declared.version.Version.TheVariants.{One, Two}
 use Rattle.mj_handshake.specs.declared.socket_type.SocketType.TheVariants.{Dealer}
-use Rattle.mj_peer.specs.WorkerEndRules.{Call, Met, Started, Turn, Worker, answers, beat_acts, counted, finishes, finishing, follows, follows_idle, fresh, greets, handed_by, happens, hearing, hears, idles_on, idling, is_finished, meets, obeys, partials, quiets, registers, reopens, request_by, request_in, rests, served, serves, starts, steps, takes, turn_of, verdict}
+use Rattle.mj_peer.specs.WorkerEndRules.{Call, Met, Started, Turn, Worker, answers, finishes, finishing, follows, follows_idle, fresh, greets, handed_by, happens, hearing, hears, idles_on, is_finished, meets, obeys, partials, quiets, reopens, request_by, request_in, rests, served, serves, takes, turn_of}
 use Rattle.mj_peer.specs.PeerTexts.{hello, order_in, said_text, same_version}
 use Rattle.mj_peer.specs.Sweeping.{behind, beyond, ends, is_end, is_ready, sweep}
 use Rattle.mj_peer.specs.declared.act.Act.{Act}
@@ -17,7 +17,7 @@ use Rattle.mj_peer.specs.declared.act.Act.TheVariants as act
 use Rattle.mj_peer.specs.declared.duty.Duty.{Duty}
 use Rattle.mj_peer.specs.declared.post.Handed.{Handed}
 use Rattle.mj_peer.specs.declared.verdict.Verdict.TheVariants.{Again, Lost, Stay}
-use Rattle.mj_peer_laws.specs.WorkerSights.{AreOwn, Comes, Does, IsAnswer, IsOwn, IsQuiet, IsRight, Scene, Sight, comes, nothing, partial_texts, reply_texts, requests, sees, sight_of, sights}
+use Rattle.mj_peer_laws.specs.WorkerSights.{AreOwn, Does, IsAnswer, IsOwn, IsQuiet, IsRight, Scene, Sight, comes, nothing, partial_texts, reply_texts, requests, sees, sight_of, sights}
 use Rattle.mj_peer_laws.specs.Watching.{AreRight, seen}
 use Rattle.mj_peer_laws.proofs.WatchLemmas.{right-append, seen-append}
 use Rattle.mj_wire.specs.declared.item.WireItem.{WireItem}
@@ -137,8 +137,8 @@ quiets-goes v n p rest ended w s l = of (nat_lt w.duty.quiet 74) (nat_lt w.duty.
 
     of : (few more : Bool)
         → Outcome v n p rest
-          (ends (follows (cond few (cond ended Again Stay) (cond more Again Lost)) (record w { duty = cond few (record w.duty { quiet = w.duty.quiet + 1 }) (cond more (record w.duty { tried = w.duty.tried + 1; quiet = 0 }) (record w.duty { over = true })) })))
-          (follows (cond few (cond ended Again Stay) (cond more Again Lost)) (record w { duty = cond few (record w.duty { quiet = w.duty.quiet + 1 }) (cond more (record w.duty { tried = w.duty.tried + 1; quiet = 0 }) (record w.duty { over = true })) })) s
+        (ends (follows (cond few (cond ended Again Stay) (cond more Again Lost)) (record w { duty = cond few (record w.duty { quiet = w.duty.quiet + 1 }) (cond more (record w.duty { tried = w.duty.tried + 1; quiet = 0 }) (record w.duty { over = true })) })))
+        (follows (cond few (cond ended Again Stay) (cond more Again Lost)) (record w { duty = cond few (record w.duty { quiet = w.duty.quiet + 1 }) (cond more (record w.duty { tried = w.duty.tried + 1; quiet = 0 }) (record w.duty { over = true })) })) s
     of true more = wait ended (record w { duty = record w.duty { quiet = w.duty.quiet + 1 } }) (counts v n p rest w w.duty.tried (w.duty.quiet + 1) w.duty.served s l)
     of false true =
         again v n p rest (record w { duty = record w.duty { tried = w.duty.tried + 1; quiet = 0 } }) s (counts v n p rest w (w.duty.tried + 1) 0 w.duty.served s l)
@@ -215,12 +215,12 @@ serves-goes v n p rest r w s l =
     let first = answer-goes v n p rest r u s live in
     let whole = then-outcome v n p rest (ends (finishing u)) xs (finishing u) s first.right (finishes-goes v n p rest (is_finished u.duty) u (seen (sees v) (did xs) s) first.live) in
     let are : xs ≡ answers w.duty r.address r.body =
-        ap (λ (x : Version). map act.Write (reply_texts x p r) ++ act.Served ∷ []) (sym l.told.version) ∙ ap (λ (k : ℕ). map act.Write (reply_texts w.duty.version k r) ++ act.Served ∷ []) (sym l.told.parts)
-        ∙ sym (answers-are w.duty r) in
+    ap (λ (x : Version). map act.Write (reply_texts x p r) ++ act.Served ∷ []) (sym l.told.version) ∙ ap (λ (k : ℕ). map act.Write (reply_texts w.duty.version k r) ++ act.Served ∷ []) (sym l.told.parts)
+    ∙ sym (answers-are w.duty r) in
     let nothing_ends : list_any is_end xs ≡ false =
-        list_any-append is_end (map act.Write (reply_texts v p r)) (act.Served ∷ []) ∙ ap (λ (b : Bool). b || false) (writes-end-nothing (reply_texts v p r)) in
+    list_any-append is_end (map act.Write (reply_texts v p r)) (act.Served ∷ []) ∙ ap (λ (b : Bool). b || false) (writes-end-nothing (reply_texts v p r)) in
     let same : ends (finishing u) ≡ list_any is_end (xs ++ (finishing u).1) =
-        sym (list_any-append is_end xs (finishing u).1 ∙ ap (λ (b : Bool). b || ends (finishing u)) nothing_ends) in
+    sym (list_any-append is_end xs (finishing u).1 ∙ ap (λ (b : Bool). b || ends (finishing u)) nothing_ends) in
     subst (λ (l : List Act). Outcome v n p rest (list_any is_end (l ++ (finishing u).1)) ((finishing u).0, l ++ (finishing u).1) s) are
     (subst (λ (b : Bool). Outcome v n p rest b ((finishing u).0, xs ++ (finishing u).1) s) same whole)
 
@@ -332,9 +332,10 @@ runs-go : (v : Version) (n : List ℕ) (p : ℕ) (calls : List Call) (w : Worker
 runs-go v n p [] w s f = tt
 runs-go v n p (call ∷ calls) w s f =
     let g = call-goes v n p call w s f in
-    let k = sees v (sight_of call) s in
-    (sight-right v n p call s (quiet v n p w s f),
-        right-append (IsRight v n p) (sees v) (did (turn_of call w).1) (sights calls (turn_of call w).0) k g.right (runs-go v n p calls (turn_of call w).0 (seen (sees v) (did (turn_of call w).1) k) g.fits))
+    let k = sees v (sight_of call) s in (
+      sight-right v n p call s (quiet v n p w s f),
+      right-append (IsRight v n p) (sees v) (did (turn_of call w).1) (sights calls (turn_of call w).0) k g.right (runs-go v n p calls (turn_of call w).0 (seen (sees v) (did (turn_of call w).1) k) g.fits),
+    )
 
 pub runs-are-right : (v : Version) (n : List ℕ) (tries p count : ℕ) (calls : List Call) → AreRight (IsRight v n p) (sees v) (sights calls (fresh v n tries p count)) nothing
 runs-are-right v n tries p count calls =
