@@ -1,13 +1,12 @@
 -- A sweep in the making, and a piece that a reader took.
-use Rattle.std.proofs.Common.{◌≡◌, ℕ, Bool, true, false, ◌||◌, List, [], ◌∷◌, ◌++◌, length, drop, refl, sym, ap, ◌∙◌, append_assoc, append-nil}
+use Rattle.std.proofs.Common.{◌≡◌, ℕ, Bool, true, false, List, [], ◌++◌, length, drop, refl, sym, ap, ◌∙◌, append_assoc, append-nil}
 use Rattle.std.proofs.lemmas.Bool.{false≢true}
 use Rattle.std.proofs.Math.Seq.{drop-append_seam}
-use Rattle.std.specs.List.{list_any}
 use Rattle.mj_base.specs.declared.limits.Limits.{Limits}
-use Rattle.mj_wire.specs.StreamItems.{gained, items_from, items_within, start, stream_items}
+use Rattle.mj_wire.specs.StreamItems.{gained, items_from, items_within, stream_items}
 use Rattle.mj_wire.specs.WireState.{State, StandsFor}
 use Rattle.mj_wire.specs.declared.item.WireItem.{WireItem}
-use Rattle.mj_peer.specs.Sweeping.{behind, beyond, is_ready, is_ready_item, items}
+use Rattle.mj_peer.specs.Sweeping.{behind, is_ready}
 use Rattle.mj_peer.specs.declared.act.Act.{Act}
 
 -- what was done so far and what is left are the whole

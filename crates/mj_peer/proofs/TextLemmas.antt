@@ -1,5 +1,5 @@
 -- What a worker's end says has a form in its version.
-use Rattle.std.proofs.Common.{◌≡◌, Bool, true, false, refl, ap}
+use Rattle.std.proofs.Common.{Bool, true, false, refl, ap}
 use Rattle.std.proofs.lemmas.Bool.{false≢true}
 use Rattle.mj_base.specs.declared.version.Version.{Version}
 use Rattle.mj_base.specs.declared.version.Version.TheVariants.{One, Two}

@@ -1,5 +1,5 @@
 -- When a client's end stands for the client of the rules, and what its calls do then.
-use Rattle.std.specs.Prelude.{◌≡◌, Bool, false, List, [], ◌∷◌, ◌++◌}
+use Rattle.std.specs.Prelude.{◌≡◌, Bool, List, [], ◌∷◌, ◌++◌}
 use Rattle.mj_base.specs.StandardLimits.{peer_limits}
 use Rattle.mj_wire.specs.WireState.{StandsFor}
 use Rattle.mj_peer.specs.ClientEndRules.{Call, Client, Turn, after, turn_of}

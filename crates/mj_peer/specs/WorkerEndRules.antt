@@ -18,7 +18,6 @@ use Rattle.mj_wire.specs.declared.item.WireItem.TheVariants as item
 use Rattle.mj_worker_cmd.specs.declared.command.Order.{Order}
 use Rattle.mj_worker_cmd.specs.declared.command.OrderAct.{OrderAct}
 use Rattle.mj_worker_cmd.specs.declared.command.OrderAct.TheVariants as order
-use Rattle.mj_worker_cmd.specs.declared.command.WorkerAct.{WorkerAct}
 use Rattle.mj_worker_cmd.specs.declared.command.WorkerAct.TheVariants as said
 
 -- what it was told and has counted, the stream of the present link, and how often that link was `Idle` since the worker's

@@ -1,5 +1,5 @@
 -- When a worker's end stands for the worker of the rules, and what its calls do then.
-use Rattle.std.specs.Prelude.{ℕ, ◌≡◌, ◌<◌, ◌%◌, Bool, List, [], ◌∷◌, ◌++◌}
+use Rattle.std.specs.Prelude.{◌≡◌, ◌%◌, Bool, List, [], ◌∷◌, ◌++◌}
 use Rattle.mj_base.specs.StandardLimits.{peer_limits}
 use Rattle.mj_wire.specs.WireState.{StandsFor}
 use Rattle.mj_peer.specs.Sweeping.{ends, is_ready}

@@ -1,4 +1,4 @@
-ghost use Rattle.std.specs.Prelude.{◌≡◌, ◌≤◌, [], true, false, None, is_some, IsOk, OnOk, OnErr, IfOk};
+ghost use Rattle.std.specs.Prelude.{◌≡◌, ◌≤◌, [], true, false, is_some, IsOk, OnOk, OnErr, IfOk};
 ghost use Rattle.mj_peer.specs.ClientEndRules.{Asked, Met, asks, fresh, steps};
 ghost use Rattle.mj_peer.specs.ClientStands.{Follows, GoesOn, Stands};
 
@@ -29,7 +29,7 @@ impl ClientEnd {
         requires wait { 1 ≤ wait }
         ensures stands { IfOk result (λ end. Stands end.session (fresh version service tries wait)) }
         ensures ready { IfOk result (λ end. end.spent ≡ false) }
-        ensures closed { IfOk result (λ end. end.session.talk.request ≡ None) }
+        ensures closed { IfOk result (λ end. is_some end.session.talk.request ≡ false) }
     {
         Ok(ClientEnd {
             session: Session::new(alloc, version, service, tries, wait)?,
@@ -40,7 +40,7 @@ impl ClientEnd {
     /// Asks: the acts of a new request, whose first try begins. After a request was given up there are none.
     pub fn ask(&mut self, alloc: Global, body: &Frames) -> Result<Acts, NoMemory>
         requires ready { self.old.spent ≡ false }
-        requires closed { self.old.session.talk.request ≡ None }
+        requires closed { is_some self.old.session.talk.request ≡ false }
         ensures turn { IfOk result (λ acts. Follows self.old.session self.new.session [] acts (asks body.now)) }
         ensures run { IfOk result (λ acts. GoesOn self.old.session self.new.session acts (Asked body.now)) }
         ensures ready { OnOk result (self.new.spent ≡ false) }

@@ -11,14 +11,14 @@ use Rattle.mj_base.specs.declared.link.LinkEvent.TheVariants as event
 use Rattle.mj_base.specs.declared.version.Version.{Version}
 use Rattle.mj_base.specs.declared.version.Version.TheVariants.{One, Two}
 use Rattle.mj_client_cmd.specs.declared.command.ClientReply.{ClientReply}
-use Rattle.mj_peer.specs.ClientEndRules.{Asked, Call, Client, Met, Turn, answers, asked, asks, begins, counted, follows, fresh, gives, greets, happens, hears, is_its, meets, opened, opens, quiets, reopens, request_acts, steps, turn_of, verdict}
+use Rattle.mj_peer.specs.ClientEndRules.{Asked, Call, Client, Met, Turn, answers, asked, begins, counted, follows, fresh, happens, hears, is_its, meets, opened, opens, quiets, reopens, request_acts, turn_of, verdict}
 use Rattle.mj_peer.specs.PeerTexts.{client_type, hello, reply_in, request_text, same_version}
 use Rattle.mj_peer.specs.Sweeping.{behind, beyond, ends, is_ready, is_ready_item, items, sweep}
 use Rattle.mj_peer.specs.declared.act.Act.{Act}
 use Rattle.mj_peer.specs.declared.act.Act.TheVariants as act
 use Rattle.mj_peer.specs.declared.talk.Talk.{Talk}
 use Rattle.mj_peer.specs.declared.verdict.Verdict.TheVariants.{Again, Lost, Stay}
-use Rattle.mj_peer_laws.specs.ClientSights.{Comes, Does, IsReply, IsRequest, IsRight, Scene, Sight, comes, nothing, sees, sight_of, sights}
+use Rattle.mj_peer_laws.specs.ClientSights.{Does, IsReply, IsRight, Scene, Sight, comes, nothing, sees, sight_of, sights}
 use Rattle.mj_peer_laws.specs.Watching.{AreRight, seen}
 use Rattle.mj_peer_laws.proofs.WatchLemmas.{any-behind, both, right-append, seen-append}
 use Rattle.mj_wire.specs.declared.item.WireItem.{WireItem}

@@ -1,3 +1,4 @@
 mod WatchLemmas
 mod ClientSightLemmas
 mod WorkerSightLemmas
+mod TryLemmas

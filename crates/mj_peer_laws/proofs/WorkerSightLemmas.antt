@@ -1,15 +1,15 @@
 -- Every run of a worker's end is right.
-use Rattle.std.proofs.Common.{◌≡◌, ℕ, zero, suc, Bool, true, false, ◌||◌, ◌&&◌, List, [], ◌∷◌, ◌++◌, map, refl, sym, ap, subst, ◌∙◌, cond, Option, None, Some, append_assoc, append-nil, inl, inr, drop}
-use Rattle.std.specs.Prelude.{◌⊎◌, nat_lt, nat_le, ◌-◌, ◌+◌, ◌%◌, ◌==◌, replicate, option_to_list}
+use Rattle.std.proofs.Common.{◌≡◌, ℕ, zero, suc, Bool, true, false, ◌||◌, List, [], ◌∷◌, ◌++◌, map, refl, sym, ap, subst, ◌∙◌, cond, Option, None, Some, append_assoc, append-nil, inl, inr, drop}
+use Rattle.std.specs.Prelude.{◌⊎◌, nat_lt, ◌-◌, ◌+◌, ◌%◌, ◌==◌, replicate, option_to_list}
 use Rattle.std.proofs.lemmas.List.{map-append}
 use Rattle.std.proofs.lemmas.List.Folds.{list_any-append}
-use Rattle.std.specs.List.{AllByRecursion, list_any}
+use Rattle.std.specs.List.{list_any}
 use Rattle.mj_base.specs.declared.link.LinkEvent.{LinkEvent}
 use Rattle.mj_base.specs.declared.link.LinkEvent.TheVariants as event
 use Rattle.mj_base.specs.declared.version.Version.{Version}
 use Rattle.mj_base.specs.declared.version.Version.TheVariants.{One, Two}
 use Rattle.mj_handshake.specs.declared.socket_type.SocketType.TheVariants.{Dealer}
-use Rattle.mj_peer.specs.WorkerEndRules.{Call, Met, Started, Turn, Worker, answers, beat_acts, counted, finishes, finishing, follows, follows_idle, fresh, greets, handed_by, happens, hearing, hears, idles_on, idling, is_finished, meets, obeys, partials, quiets, registers, reopens, request_by, request_in, rests, served, serves, starts, steps, takes, turn_of, verdict}
+use Rattle.mj_peer.specs.WorkerEndRules.{Call, Met, Started, Turn, Worker, answers, finishes, finishing, follows, follows_idle, fresh, greets, handed_by, happens, hearing, hears, idles_on, is_finished, meets, obeys, partials, quiets, reopens, request_by, request_in, rests, served, serves, takes, turn_of}
 use Rattle.mj_peer.specs.PeerTexts.{hello, order_in, said_text, same_version}
 use Rattle.mj_peer.specs.Sweeping.{behind, beyond, ends, is_end, is_ready, sweep}
 use Rattle.mj_peer.specs.declared.act.Act.{Act}
@@ -17,7 +17,7 @@ use Rattle.mj_peer.specs.declared.act.Act.TheVariants as act
 use Rattle.mj_peer.specs.declared.duty.Duty.{Duty}
 use Rattle.mj_peer.specs.declared.post.Handed.{Handed}
 use Rattle.mj_peer.specs.declared.verdict.Verdict.TheVariants.{Again, Lost, Stay}
-use Rattle.mj_peer_laws.specs.WorkerSights.{AreOwn, Comes, Does, IsAnswer, IsOwn, IsQuiet, IsRight, Scene, Sight, comes, nothing, partial_texts, reply_texts, requests, sees, sight_of, sights}
+use Rattle.mj_peer_laws.specs.WorkerSights.{AreOwn, Does, IsAnswer, IsOwn, IsQuiet, IsRight, Scene, Sight, comes, nothing, partial_texts, reply_texts, requests, sees, sight_of, sights}
 use Rattle.mj_peer_laws.specs.Watching.{AreRight, seen}
 use Rattle.mj_peer_laws.proofs.WatchLemmas.{right-append, seen-append}
 use Rattle.mj_wire.specs.declared.item.WireItem.{WireItem}

@@ -1,5 +1,5 @@
 -- What holds of every run of a worker's end, in the words of one who watches it.
-use Rattle.std.specs.Prelude.{ℕ, ◌≡◌, ⊤, ◌⊎◌, Bool, true, false, List, [], ◌∷◌, ◌++◌, map, drop, replicate, flat_map, Option, None, Some, option_to_list}
+use Rattle.std.specs.Prelude.{ℕ, ◌≡◌, ⊤, ◌⊎◌, Bool, true, false, List, [], ◌∷◌, ◌++◌, map, drop, replicate, option_to_list}
 use Rattle.std.specs.List.{AllByRecursion}
 use Rattle.mj_base.specs.declared.link.LinkEvent.{LinkEvent}
 use Rattle.mj_base.specs.declared.link.LinkEvent.TheVariants as event

@@ -1,4 +1,5 @@
 ghost use Rattle.mj_peer_laws.specs.ClientSights;
+ghost use Rattle.mj_peer_laws.specs.ClientTries;
 ghost use Rattle.mj_peer_laws.specs.WorkerSights;
 
 /// A request is written only on a link whose stream has the broker's READY, and beside it only how a link begins. What
@@ -6,6 +7,12 @@ ghost use Rattle.mj_peer_laws.specs.WorkerSights;
 /// a request was open. A request gets one final reply at most.
 pub fn a_client_asks_on_ready_links_and_hands_out_its_replies()
     ensures { ClientSights.RunsAreRight }
+{}
+
+/// A client gives a request up exactly at the last quiet event of its last try, counted since it was asked: where nothing
+/// came for 100 ms, the link ended, or its stream broke the rules. From then on it does nothing.
+pub fn a_client_gives_up_at_the_last_quiet_event()
+    ensures { ClientTries.RunsAreRight }
 {}
 
 /// A worker answers each REQUEST that it was given with that REQUEST's address and body, on the REQUEST's link, in

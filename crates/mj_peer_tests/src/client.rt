@@ -55,6 +55,7 @@ fn a_client_tries_again_and_gives_up(rt: HostRuntime) -> Result<(), Fail> {
             &[("reopen", b""), ("write", DEALER)]
         )
     );
+    assert!(rt; !end.is_asking());
     assert!(rt; are(&end.ask(alloc, &body(alloc, b"hi")?)?, &[]));
 
     // A partial reply, a fault of the stream as the second quiet event, and the third.
@@ -83,6 +84,7 @@ fn a_client_tries_again_and_gives_up(rt: HostRuntime) -> Result<(), Fail> {
     assert!(rt; are(&end.step(alloc, LinkEvent::Idle)?, &[("no answer", b"")]));
     assert!(rt; end.is_over() && !end.is_asking());
     assert!(rt; are(&end.step(alloc, LinkEvent::End)?, &[]));
+    assert!(rt; !end.is_asking());
     assert!(rt; are(&end.ask(alloc, &body(alloc, b"hi")?)?, &[]));
     Ok(())
 }

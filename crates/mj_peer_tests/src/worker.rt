@@ -91,6 +91,7 @@ fn a_worker_beats_and_gives_up(rt: HostRuntime) -> Result<(), Fail> {
 
     // Each 25th idle event writes HEARTBEAT, the 75th ends the only try.
     for i in 1..75 {
+        assert!(rt; !end.is_spent());
         let acts = end.step(alloc, LinkEvent::Idle)?;
         if i == 25 || i == 50 {
             assert!(rt; are(&acts, &[("write", HEARTBEAT)]));
@@ -98,6 +99,7 @@ fn a_worker_beats_and_gives_up(rt: HostRuntime) -> Result<(), Fail> {
             assert!(rt; are(&acts, &[]));
         }
     }
+    assert!(rt; !end.is_spent());
     assert!(rt; are(&end.step(alloc, LinkEvent::Idle)?, &[("no answer", b"")]));
     assert!(rt; end.served() == 0);
     Ok(())

@@ -1,7 +1,6 @@
 use Rattle.std.proofs.Common.{ap, ◌∙◌, ◌++◌, ◌||◌, Bool, List, refl}
-use Rattle.std.specs.List.{list_any}
 use Rattle.mj_base.specs.StandardLimits.{peer_limits}
-use Rattle.mj_peer.specs.Sweeping.{beyond, is_ready_item}
+use Rattle.mj_peer.specs.Sweeping.{beyond}
 use Rattle.mj_wire.specs.declared.item.WireItem.{WireItem}
 use Rattle.mj_peer.proofs.WorkerLemmas.{taken}
 use Rattle.mj_peer.proofs.post.Post.take.Goals as goal
