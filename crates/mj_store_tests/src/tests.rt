@@ -3,8 +3,9 @@ use crate::made::{
 };
 use crate::silent::SilentDisk;
 use mj_base::Limits;
+use mj_disk::MemoryDisk;
 use mj_ids::TicketId;
-use mj_store::{AcceptFault, BodyFault, OpenFault, Store};
+use mj_store::{AcceptFault, BodyFault, OpenFault, Store, images_open_again};
 use mj_tickets::TicketState;
 use std::alloc::Global;
 use std::test::Fail;
@@ -227,4 +228,9 @@ fn what_memory_knows_is_told(rt: HostRuntime) -> Result<(), Fail> {
     assert!(rt; listed);
     assert!(rt; store.listed(2).is_none());
     Ok(())
+}
+
+#[test]
+fn the_law_of_images_can_be_called() {
+    images_open_again::<MemoryDisk>();
 }
