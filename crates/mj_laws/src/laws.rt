@@ -3,7 +3,7 @@ ghost use Rattle.mj_laws.specs.Cuts.{CutsChangeNothing};
 ghost use Rattle.mj_laws.specs.Kept.{CommandsGrow, IsOpenable, ListsAreLawful, StoresGoOn};
 ghost use Rattle.mj_laws.specs.NobodyWaits.{EventsSettle, MessagesSettle, NobodyWaits};
 ghost use Rattle.mj_laws.specs.Notes.{NotesAreTold};
-ghost use Rattle.mj_laws.specs.Replies.{OneReplyOfBytes, RepliesAreOwned};
+ghost use Rattle.mj_laws.specs.Replies.{OneReplyOfBytes, RepliesAreOwned, RepliesAreOwnedWithout};
 ghost use Rattle.mj_laws.specs.Requests.{LeasesEndInTime, OneRequestAtATime, RequestsArePaired};
 ghost use Rattle.mj_laws.specs.Soundness.{IsBegun, StaysSound};
 ghost use Rattle.mj_laws.specs.Storeless.{NothingIsKept};
@@ -18,9 +18,11 @@ ghost use Rattle.std.specs.Prelude.{List, ℕ};
 /// request of the client on the piece's lane for the service that it serves; and it is that reply in the request's
 /// service and version. Or it answers the client's own request, in that step, for a name that the broker answers
 /// itself (ZeroMQ RFC 8; with a store RFC 9), and is the answer; one of Titanic's says what is true of the store behind
-/// that step. Bytes can be read as one reply alone, so its service and version are the request's.
+/// that step, and without a store there is none of these. Bytes can be read as one reply alone, so its service and
+/// version are the request's.
 pub fn replies_reach_their_asker()
     ensures owned { (limits : AnyLimits) (store : Store) (events : List Noted) → RepliesAreOwned limits (start_with limits store) events }
+    ensures without { (limits : AnyLimits) (events : List Noted) → RepliesAreOwnedWithout limits events }
     ensures read { OneReplyOfBytes }
 {}
 
