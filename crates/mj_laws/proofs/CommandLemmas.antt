@@ -1,19 +1,19 @@
 -- Commands are only added to.
-use Rattle.std.proofs.Common.{◌≡◌, ℕ, List, [], ◌∷◌, ◌++◌, Option, None, Some, refl, sym, ap, ◌∙◌, append-nil, append_assoc}
+use Rattle.std.proofs.Common.{List, [], ◌∷◌, ◌++◌, Option, None, Some, refl, sym, ap, ◌∙◌, append-nil, append_assoc}
 use Rattle.std.specs.List.{AllByRecursion}
 use Rattle.mj_base.specs.declared.limits.Limits.{Limits}
 use Rattle.mj_tickets.specs.declared.command.TicketCmd.{TicketCmd}
 use Rattle.mj_tickets.specs.declared.command.TicketCmd.TheVariants as cmds
 use Rattle.mj_machine.specs.StoreState.{Access, Store}
 use Rattle.mj_machine.specs.MachineState.{Machine, State, Whole}
-use Rattle.mj_machine.specs.DiskActs.{finds, found_in, reopened, with_found}
-use Rattle.mj_machine.specs.EventStep.{Noted, state_after}
+use Rattle.mj_machine.specs.DiskActs.{finds, found_in, reopened}
+use Rattle.mj_machine.specs.EventStep.{Noted}
 use Rattle.mj_machine.specs.MachineRun.{run_state}
 use Rattle.mj_machine.specs.Steps.{Cause, IsAllowed, Step, acts, event_steps, run_steps, step_of, stores_in}
 use Rattle.mj_machine.proofs.Changes.{IsCarried, accepts_next}
 use Rattle.mj_machine.proofs.StepWalk.{AnyLane, IsWalked, MayBegin, Of, stays-event, stays-run, walked-by}
 use Rattle.mj_machine.proofs.Walk.{walk-acts}
-use Rattle.mj_laws.specs.Kept.{CommandsGrow, Extends, GoesFrom, StoresGoOn}
+use Rattle.mj_laws.specs.Kept.{CommandsGrow, GoesFrom, StoresGoOn}
 
 pub goes-same : (store : Store) → GoesFrom store store
 goes-same store = record { stored = refl; seed = refl; base = refl; commands = ([], sym (append-nil store.commands)) }
@@ -95,6 +95,17 @@ steps-go first (t ∷ steps) all = (all.0.2, steps-go first steps all.1)
 in-stores : (first : Store) (steps : List Step) → AllByRecursion (StepGoes first) steps → AllByRecursion (GoesFrom first) (stores_in steps)
 in-stores first [] all = tt
 in-stores first (t ∷ steps) all = (all.0.0, (all.0.1, in-stores first steps all.1))
+
+around-stores : (first : Store) (steps : List Step) → AllByRecursion (StepGoes first) steps → AllByRecursion (λ t. GoesFrom first t.before.store × GoesFrom first t.after.store) steps
+around-stores first [] all = tt
+around-stores first (t ∷ steps) all = ((all.0.0, all.0.1), around-stores first steps all.1)
+
+-- the stores around each step go on from the first
+pub later-stores : (limits : Limits) (m : Machine) (events : List Noted)
+    → AllByRecursion (λ t. GoesFrom m.store t.before.store × GoesFrom m.store t.after.store) (run_steps limits m events) × GoesFrom m.store (run_state limits m events).store
+later-stores limits m events =
+    let all = stays-run AnyLane (Later m.store) (Of (Later m.store)) (StepGoes m.store) (goes-walked m.store) (λ s store p lane. tt) limits m events (goes-same m.store) in
+    (around-stores m.store (run_steps limits m events) all.0, all.1)
 
 pub commands_grow : (limits : Limits) (m : Machine) (events : List Noted) → CommandsGrow limits m events
 commands_grow limits m events =

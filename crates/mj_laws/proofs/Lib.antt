@@ -20,3 +20,8 @@ pub mod AloneLemmas
 pub mod CutLemmas
 pub mod CommandLemmas
 pub mod ShutLemmas
+pub mod TellLemmas
+pub mod TicketCounts
+pub mod FileLemmas
+pub mod PendingLemmas
+pub mod ConservedLemmas

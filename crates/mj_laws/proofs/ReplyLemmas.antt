@@ -1,12 +1,12 @@
 -- Each piece that can be read as a reply is the answer to the asker's own request, or the reply that its worker gave.
-use Rattle.std.proofs.Common.{◌⊎◌, ℕ, List, sym, ap, subst, ◌∙◌, inl, inr}
+use Rattle.std.proofs.Common.{◌≡◌, true, ◌⊎◌, false, ℕ, List, sym, ap, subst, ◌∙◌, inl, inr}
 use Rattle.std.specs.List.{AllByRecursion}
 use Rattle.mj_base.specs.declared.event.Out.{Out}
 use Rattle.mj_base.specs.declared.event.Out.TheVariants.{End, Note, Piece}
 use Rattle.mj_base.specs.declared.limits.Limits.{Limits}
 use Rattle.mj_worker_cmd.specs.declared.command.OrderAct.TheVariants as order
-use Rattle.mj_machine.specs.StoreState.{Store}
-use Rattle.mj_machine.specs.MachineState.{Whole, start_with}
+use Rattle.mj_machine.specs.StoreState.{Store, no_store}
+use Rattle.mj_machine.specs.MachineState.{Whole, start, start_with}
 use Rattle.mj_machine.specs.Pairing.{body_for}
 use Rattle.mj_machine.specs.EventStep.{Noted}
 use Rattle.mj_machine.specs.Connections.{connection_of, is_asking, voice_of}
@@ -16,11 +16,13 @@ use Rattle.mj_machine.specs.Steps.{Cause, Step, acts, run_steps, step_of}
 use Rattle.mj_machine.proofs.ListLemmas.{all-both, all-map}
 use Rattle.mj_machine.proofs.StepLemmas.{IsAct, steps-act}
 use Rattle.mj_machine.proofs.Changes.{Answers, Beats, Delivers, Greets, Hands, IsAnswered, IsDelivered, IsServed, Refuses, Shakes, Tells, Why}
-use Rattle.mj_laws.specs.Replies.{IsExplained, IsOwnAnswer, IsOwned, IsReply, IsTitanics}
+use Rattle.mj_laws.specs.Replies.{IsExplained, IsExplainedWithout, IsOwnAnswer, IsOwned, IsReply, IsTitanics, RepliesAreOwnedWithout}
 use Rattle.mj_laws.specs.Soundness.{ServicesAgree}
 use Rattle.mj_laws.proofs.HeldLemmas.{replies-of}
 use Rattle.mj_laws.proofs.PutLemmas.{HasReason, IsPut, acts-have-reasons}
 use Rattle.mj_laws.proofs.SoundLemmas.{stays-sound-with}
+use Rattle.mj_laws.proofs.StorelessLemmas.{nothing_is_kept}
+use Rattle.mj_base.specs.ServiceName.{is_reserved}
 use Rattle.mj_laws.proofs.TextLemmas.{greeting-no_reply, order-no_reply, ready-no_reply}
 
 module _ (cause : Cause) (w0 : Whole) (agree : ServicesAgree w0.routing) where
@@ -119,3 +121,23 @@ replies_are_owned limits store events =
     let m = start_with limits store in
     all-map _ _ (λ t both. step-explained t both.0 both.1.0.services) (run_steps limits m events)
     (all-both _ _ (run_steps limits m events) (steps-act limits m events) (stays-sound-with limits store events).0)
+
+-- ---- without a store
+
+-- no reply is one of Titanic's
+no-titanics : (t : Step) → t.before.store ≡ no_store → (lane : ℕ) (octets : List ℕ) → IsTitanics lane octets t → ⊥
+no-titanics t none lane octets is =
+    let reserved : is_reserved false is.cmd.service ≡ true = ap (λ (x : Store). is_reserved x.stored is.cmd.service) (sym none) ∙ is.reserved in
+    cc (reserved, is.free)
+
+explained-without : (t : Step) → t.before.store ≡ no_store → (out : Out) → IsExplained t out → IsExplainedWithout t out
+explained-without t none (Piece lane octets) is = λ reply.
+    elim (is reply) [ inl owned ↦ inl owned | inr other ↦ elim other [ inl own ↦ inr own | inr titanics ↦ absurd (no-titanics t none lane octets titanics) ] ]
+explained-without t none (End lane reason at) is = tt
+explained-without t none (Note note) is = tt
+
+pub replies_are_owned_without : (limits : Limits) (events : List Noted) → RepliesAreOwnedWithout limits events
+replies_are_owned_without limits events =
+    let steps = run_steps limits (start limits) events in
+    all-map _ _ (λ t both. all-map (IsExplained t) (IsExplainedWithout t) (explained-without t both.1.0.0) t.outs both.0) steps
+    (all-both _ _ steps (replies_are_owned limits no_store events) (nothing_is_kept limits events).0)

@@ -2,17 +2,17 @@
 use Rattle.std.proofs.Common.{◌≡◌, ℕ, Bool, true, false, cond, List, [], ◌∷◌, refl, sym, ap, subst}
 use Rattle.std.specs.List.{AllByRecursion, filter}
 use Rattle.mj_base.specs.declared.limits.Limits.{Limits}
-use Rattle.mj_queue.specs.Settling.{Pair, has_waiter, is_of_client, pair, without_client}
+use Rattle.mj_queue.specs.Settling.{has_waiter, is_of_client, without_client}
 use Rattle.mj_queue.specs.declared.request.Request.{Request}
-use Rattle.mj_machine.specs.StoreState.{Access, IsShut, Open, Store, told_by, usable}
+use Rattle.mj_machine.specs.StoreState.{Access, IsShut, Store, told_by, usable}
 use Rattle.mj_machine.specs.MachineState.{Machine, State, Whole}
 use Rattle.mj_machine.specs.Leaving.{held_by, left}
 use Rattle.mj_machine.specs.EventStep.{Noted}
 use Rattle.mj_machine.specs.Steps.{Cause}
 use Rattle.mj_machine.proofs.Changes.{IsCarried}
-use Rattle.mj_machine.proofs.ListLemmas.{all-append, all-filter, all-map}
+use Rattle.mj_machine.proofs.ListLemmas.{all-append, all-filter}
 use Rattle.mj_machine.proofs.SettlingLemmas.{nothing_back, shut-tells}
-use Rattle.mj_machine.proofs.StepWalk.{AnyLane, MayBegin, Of, OnBothSides, stays-run, walked-kept}
+use Rattle.mj_machine.proofs.StepWalk.{AnyLane, MayBegin, Of, stays-run, walked-kept}
 use Rattle.mj_laws.specs.Tickets.{NoTicketWaits, TicketsWaitForTheStore}
 use Rattle.mj_laws.proofs.CountLemmas.{all-first}
 use Rattle.mj_laws.proofs.WorkerLemmas.{is-pair}

@@ -83,7 +83,7 @@ stays-sound-without limits events =
     let sound = stays-sound-with limits no_store events in
     let none = storeless-run limits (start limits) events (storeless-start limits) in (
       all-map _ _ (λ t p. (clients-alone limits t.before.routing p.0.0.1 p.1.0, clients-alone limits t.after.routing p.0.1.1 p.1.1)) (run_steps limits (start limits) events)
-      (all-both _ _ (run_steps limits (start limits) events) none.0 sound.0),
+          (all-both _ _ (run_steps limits (start limits) events) none.0 sound.0),
       clients-alone limits (run_state limits (start limits) events).state none.1.1 sound.1,
     )
 

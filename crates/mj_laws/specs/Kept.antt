@@ -8,7 +8,7 @@ use Rattle.mj_machine.specs.StoreState.{Store, opened_store}
 use Rattle.mj_machine.specs.MachineState.{Machine, start_with}
 use Rattle.mj_machine.specs.EventStep.{Noted, state_after}
 use Rattle.mj_machine.specs.MachineRun.{run_state}
-use Rattle.mj_machine.specs.Steps.{Step, lists_at, lists_in, run_steps, stores_of}
+use Rattle.mj_machine.specs.Steps.{lists_at, lists_in, run_steps, stores_of}
 
 -- ---- commands grow
 

@@ -15,7 +15,7 @@ use Rattle.mj_queue.specs.declared.request.Origin.TheVariants.{Client}
 use Rattle.mj_machine.specs.declared.connection.Connection.{Connection}
 use Rattle.mj_machine.specs.declared.said.Said.TheVariants.{Asks}
 use Rattle.mj_machine.specs.StoreState.{told_by}
-use Rattle.mj_machine.specs.MachineState.{Machine}
+use Rattle.mj_machine.specs.MachineState.{Machine, start}
 use Rattle.mj_machine.specs.EventStep.{Noted}
 use Rattle.mj_machine.specs.Connections.{connection_of, is_asking}
 use Rattle.mj_machine.specs.MessageStep.{own_answer, request_of, said_in}
@@ -83,6 +83,17 @@ IsExplained t (Note note) = Unit {0}
 
 abbrev pub RepliesAreOwned : Limits → Machine → List Noted → Type 0
 RepliesAreOwned limits m events = AllByRecursion (λ t. AllByRecursion (IsExplained t) t.outs) (run_steps limits m events)
+
+-- ---- without a store
+
+abbrev pub IsExplainedWithout : Step → Out → Type 0
+IsExplainedWithout t (Piece lane octets) = IsReply octets → IsOwned lane octets t ⊎ IsOwnAnswer lane octets t
+IsExplainedWithout t (End lane reason at) = Unit {0}
+IsExplainedWithout t (Note note) = Unit {0}
+
+-- no reply is one of Titanic's
+abbrev pub RepliesAreOwnedWithout : Limits → List Noted → Type 0
+RepliesAreOwnedWithout limits events = AllByRecursion (λ t. AllByRecursion (IsExplainedWithout t) t.outs) (run_steps limits (start limits) events)
 
 -- ---- one reply of bytes
 

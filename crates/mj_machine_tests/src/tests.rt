@@ -1,10 +1,11 @@
 use mj_laws::{
-    cuts_change_nothing, nobody_waits_for_a_queued_service, numbers_and_lanes,
-    one_request_at_a_time, replies_reach_their_asker,
+    commands_grow, cuts_change_nothing, lists_are_lawful, nobody_waits_for_a_queued_service,
+    notes_are_told, nothing_is_kept_without_a_store, numbers_and_lanes, one_request_at_a_time,
+    replies_reach_their_asker, stores_go_on, tickets_are_conserved, tickets_wait_for_the_store,
 };
 use mj_machine::{
-    Lengths, a_run_is_its_front_and_its_rest, a_worked_run_in_steps, steps_are_the_run,
-    the_worked_runs,
+    Lengths, a_run_is_its_front_and_its_rest, steps_are_the_run, the_worked_runs,
+    the_worked_runs_with_a_store, worked_runs_in_steps,
 };
 use std::test::Fail;
 
@@ -27,7 +28,8 @@ fn lengths_are_taken_in_the_order_in_which_they_came(rt: HostRuntime) -> Result<
 #[test]
 fn laws_and_worked_runs_can_be_called() {
     the_worked_runs();
-    a_worked_run_in_steps();
+    the_worked_runs_with_a_store();
+    worked_runs_in_steps();
     a_run_is_its_front_and_its_rest();
     steps_are_the_run();
     replies_reach_their_asker();
@@ -35,4 +37,11 @@ fn laws_and_worked_runs_can_be_called() {
     nobody_waits_for_a_queued_service();
     numbers_and_lanes();
     cuts_change_nothing();
+    nothing_is_kept_without_a_store();
+    tickets_are_conserved();
+    tickets_wait_for_the_store();
+    commands_grow();
+    stores_go_on();
+    lists_are_lawful();
+    notes_are_told();
 }
