@@ -7,7 +7,7 @@ ghost use Rattle.mj_prog.specs.Script.{script};
 ghost use Rattle.mj_prog.specs.Shown.{fault_words};
 ghost use Rattle.mj_base.specs.StandardLimits.{standard_limits};
 ghost use Rattle.mj_laws.specs.NobodyWaits.{NobodyWaits};
-ghost use Rattle.mj_laws.specs.Replies.{RepliesAreOwned};
+ghost use Rattle.mj_laws.specs.Replies.{RepliesAreOwnedWithout};
 ghost use Rattle.mj_laws.specs.Requests.{LeasesEndInTime, OneRequestAtATime, RequestsArePaired};
 ghost use Rattle.mj_laws.specs.Soundness.{StaysSound};
 ghost use Rattle.mj_laws.specs.Storeless.{NothingIsKept};
@@ -48,7 +48,7 @@ pub fn tool<S: Source, K: Sink>(alloc: Global, words: &[String], src: &mut S, ou
     ensures misses { S.misses src.new ≤ S.misses src.old + 1 }
 
     // What users rely on, in each step of the machine's run over the script's events, without a store.
-    ensures replies { IfSome (options_in (map string_bytes words.now)) (λ options. (text : List ℕ) → IsInput (S.left src.old) text → RepliesAreOwned standard_limits (start standard_limits) (plainly (script options.lanes text).events)) }
+    ensures replies { IfSome (options_in (map string_bytes words.now)) (λ options. (text : List ℕ) → IsInput (S.left src.old) text → RepliesAreOwnedWithout standard_limits (plainly (script options.lanes text).events)) }
     ensures requests { IfSome (options_in (map string_bytes words.now)) (λ options. (text : List ℕ) → IsInput (S.left src.old) text → OneRequestAtATime standard_limits (start standard_limits) (plainly (script options.lanes text).events)) }
     ensures paired { IfSome (options_in (map string_bytes words.now)) (λ options. (text : List ℕ) → IsInput (S.left src.old) text → RequestsArePaired standard_limits (start standard_limits) (plainly (script options.lanes text).events)) }
     ensures leases { IfSome (options_in (map string_bytes words.now)) (λ options. (text : List ℕ) → IsInput (S.left src.old) text → LeasesEndInTime standard_limits (start standard_limits) (plainly (script options.lanes text).events)) }

@@ -5,14 +5,14 @@ use Rattle.mj_prog.specs.Words.{options_in}
 use Rattle.mj_prog.specs.Statuses.{code_of}
 use Rattle.mj_base.specs.StandardLimits.{standard_limits}
 use Rattle.mj_laws.specs.NobodyWaits.{NobodyWaits}
-use Rattle.mj_laws.specs.Replies.{RepliesAreOwned}
+use Rattle.mj_laws.specs.Replies.{RepliesAreOwnedWithout}
 use Rattle.mj_laws.specs.Requests.{LeasesEndInTime, OneRequestAtATime, RequestsArePaired}
 use Rattle.mj_laws.specs.Soundness.{StaysSound}
 use Rattle.mj_laws.specs.Storeless.{NothingIsKept}
 use Rattle.mj_machine.specs.StoreState.{no_store}
 use Rattle.mj_machine.specs.MachineState.{start}
 use Rattle.mj_machine.specs.MachineRun.{plainly}
-use Rattle.mj_laws.proofs.ReplyLemmas.{replies_are_owned}
+use Rattle.mj_laws.proofs.ReplyLemmas.{replies_are_owned_without}
 use Rattle.mj_laws.proofs.RequestLemmas.{one_request_at_a_time}
 use Rattle.mj_laws.proofs.PairedLemmas.{requests_are_paired}
 use Rattle.mj_laws.proofs.LeaseLemmas.{leases_end_in_time}
@@ -72,7 +72,7 @@ pub returns-clause-statuses : goal.returns-clause-statuses
 returns-clause-statuses g c = (c.run_tool.result, c.code.ensures)
 
 pub returns-clause-replies : goal.returns-clause-replies
-returns-clause-replies g c = over-each (λ events. RepliesAreOwned standard_limits (start standard_limits) (plainly events)) (λ events. replies_are_owned standard_limits no_store (plainly events)) (g.S.Source.left c.args.src.now) (options_in (map string_bytes c.args.words.now))
+returns-clause-replies g c = over-each (λ events. RepliesAreOwnedWithout standard_limits (plainly events)) (λ events. replies_are_owned_without standard_limits (plainly events)) (g.S.Source.left c.args.src.now) (options_in (map string_bytes c.args.words.now))
 
 pub returns-clause-requests : goal.returns-clause-requests
 returns-clause-requests g c = over-each (λ events. OneRequestAtATime standard_limits (start standard_limits) (plainly events)) (λ events. one_request_at_a_time standard_limits no_store (plainly events)) (g.S.Source.left c.args.src.now) (options_in (map string_bytes c.args.words.now))
