@@ -1,12 +1,12 @@
 -- The tickets of a list of commands with one more.
-use Rattle.std.proofs.Common.{◌≡◌, ℕ, Bool, true, false, cond, not, List, [], ◌∷◌, ◌++◌, Option, None, Some, is_some, refl, sym, ap, ◌∙◌}
+use Rattle.std.proofs.Common.{◌≡◌, ℕ, Bool, true, false, cond, not, List, [], ◌∷◌, ◌++◌, Option, None, Some, is_some, refl, ap, ◌∙◌}
 use Rattle.std.specs.Prelude.{option_and_then}
 use Rattle.std.specs.Option.{option_map, unwrap_or}
 use Rattle.std.specs.List.{find}
 use Rattle.mj_tickets.specs.declared.command.TicketCmd.{TicketCmd}
 use Rattle.mj_tickets.specs.declared.command.TicketCmd.TheVariants.{Close, Store}
 use Rattle.mj_tickets.specs.Payload.{body_of}
-use Rattle.mj_tickets.specs.Fold.{Fold, Ticket, applied, changed_first, closed, fold_of, folded, is_pending, numbered, replied, start, stored, stores_in, ticket_of}
+use Rattle.mj_tickets.specs.Fold.{Fold, Ticket, applied, changed_first, closed, fold_of, folded, numbered, replied, start, stored, stores_in, ticket_of}
 use Rattle.mj_machine.specs.StoreState.{is_pending_one, pends}
 
 abbrev pub Bodies : Type 0

@@ -1,5 +1,5 @@
 -- Sending, as small changes.
-use Rattle.std.proofs.Common.{◌≡◌, ℕ, Bool, true, false, List, [], ◌∷◌, ◌++◌, length, sum, Option, None, Some, refl, sym, subst, append-nil}
+use Rattle.std.proofs.Common.{◌≡◌, ℕ, Bool, true, false, List, length, sum, Option, None, Some, refl, sym, subst, append-nil}
 use Rattle.mj_base.specs.declared.event.Out.{Out}
 use Rattle.mj_base.specs.declared.reason.Reason.TheVariants.{Slow}
 use Rattle.mj_machine.specs.declared.connection.Connection.{Connection}

@@ -5,11 +5,10 @@ use Rattle.mj_base.specs.declared.limits.Limits.{Limits}
 use Rattle.mj_wire.specs.declared.item.WireItem.{WireItem}
 use Rattle.mj_wire.specs.declared.item.WireItem.TheVariants as items
 use Rattle.mj_queue.specs.Settling.{Pair, pair}
-use Rattle.mj_machine.specs.StoreState.{Store, Told, told_by}
+use Rattle.mj_machine.specs.StoreState.{Store, told_by}
 use Rattle.mj_machine.specs.MachineState.{Machine, State, Whole, entered}
 use Rattle.mj_machine.specs.Connections.{number_on}
 use Rattle.mj_machine.specs.Acts.{Doing, each, quiet, ◌then◌}
-use Rattle.mj_machine.specs.DiskActs.{routes}
 use Rattle.mj_machine.specs.Pairing.{settles}
 use Rattle.mj_machine.specs.TickStep.{due_numbers, silent_numbers}
 use Rattle.mj_machine.specs.EventStep.{Closes, Gains, Happening, Noted, Opens, Reports, Stops, Ticks, closes, effect, happening, happens, state_after}

@@ -1,6 +1,5 @@
 -- The services of Titanic and a ticket's final reply, as small changes.
 use Rattle.std.proofs.Common.{◌≡◌, ℕ, Bool, true, false, List, [], ◌∷◌, ◌++◌, Option, None, Some, refl, sym, ap, subst, ◌∙◌, append-nil, append_assoc, codes, inl, inr}
-use Rattle.std.specs.List.{AllByRecursion}
 use Rattle.mj_base.specs.ServiceName.{is_reserved}
 use Rattle.mj_base.specs.declared.event.Note.{Note as AnyNote}
 use Rattle.mj_base.specs.declared.event.Out.{Out}
@@ -13,20 +12,18 @@ use Rattle.mj_queue.specs.declared.request.Request.{Request}
 use Rattle.mj_tickets.specs.declared.command.TicketCmd.{TicketCmd}
 use Rattle.mj_tickets.specs.declared.command.TicketCmd.TheVariants as cmds
 use Rattle.mj_tickets.specs.Fold.{Ticket, known}
-use Rattle.mj_machine.specs.declared.connection.Connection.{Connection}
-use Rattle.mj_machine.specs.declared.held.Held.{Held}
 use Rattle.mj_machine.specs.declared.said.Said.TheVariants.{Asks}
 use Rattle.mj_machine.specs.StoreState.{Access, IsShut, Open, Shut, Store, pends, pends_while, tickets_of, told_by, usable}
-use Rattle.mj_machine.specs.MachineState.{Act, State, Whole}
-use Rattle.mj_machine.specs.Acts.{Doing, behind, quiet, ◌then◌}
+use Rattle.mj_machine.specs.MachineState.{Act, Whole}
+use Rattle.mj_machine.specs.Acts.{Doing, behind, quiet}
 use Rattle.mj_machine.specs.Leaving.{comes_back, held_by}
 use Rattle.mj_machine.specs.Sending.{reply_text}
-use Rattle.mj_machine.specs.DiskActs.{appended, appending, attempted, counted, fails, finds, found_in, opening, opening_again, opening_by, reading, reopens, routes, shuts}
+use Rattle.mj_machine.specs.DiskActs.{appended, attempted, counted, fails, finds, found_in, opening, opening_again, opening_by, reopens, routes, shuts}
 use Rattle.mj_machine.specs.TitanicStep.{Fetches, Finishes, Submits, Titanic, accepts, accepted, accepts_by, answers, closed, closes_ticket, fails_to, fetches, finishes, is_full, serves, shows, shows_reply, stores, stores_by, submits, titanic_of}
-use Rattle.mj_machine.specs.TitanicAnswers.{FetchAnswer, FinishAnswer, IsTitanicAnswer, ServiceAnswer, SubmitAnswer, reply_frames, shown_frames}
-use Rattle.mj_machine.specs.MessageStep.{as_client, request_of, said_in}
+use Rattle.mj_machine.specs.TitanicAnswers.{FetchAnswer, FinishAnswer, ServiceAnswer, SubmitAnswer, reply_frames, shown_frames}
+use Rattle.mj_machine.specs.MessageStep.{request_of, said_in}
 use Rattle.mj_machine.specs.Steps.{Cause}
-use Rattle.mj_machine.proofs.Changes.{Accepting, Closing, IsCarried, IsDoubt, IsHeldBy, IsMade, NoDoubt, OnlyNotes, ReadsReply, Remains, Says, Storing, Tells, Tried, Why, accepted_at, accepts_next, closed_at, stored_at}
+use Rattle.mj_machine.proofs.Changes.{Accepting, Closing, IsCarried, IsDoubt, IsHeldBy, NoDoubt, OnlyNotes, ReadsReply, Remains, Says, Storing, Tells, Tried, accepted_at, accepts_next, closed_at, stored_at}
 use Rattle.mj_machine.proofs.FoldLemmas.{pends-stored}
 use Rattle.mj_machine.proofs.ListLemmas.{all-append}
 use Rattle.mj_machine.proofs.SendWalk.{walk-sends}

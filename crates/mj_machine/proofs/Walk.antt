@@ -1,12 +1,11 @@
 -- Every act is made of few small changes: what each of these keeps, the act keeps.
-use Rattle.std.proofs.Common.{◌≡◌, ◌||◌, ◌&&◌, ℕ, Bool, true, false, cond, List, [], ◌∷◌, ◌++◌, length, sum, Option, None, Some, refl, sym, ap, subst, ◌∙◌, append-nil, append_assoc}
+use Rattle.std.proofs.Common.{◌≡◌, ◌||◌, ◌&&◌, ℕ, Bool, true, false, cond, List, [], Option, None, Some, refl, sym, ap, subst, ◌∙◌, append-nil}
 use Rattle.std.specs.Str.{bytes_eq}
 use Rattle.std.proofs.lemmas.Slice.Eq.{bytes_eq-Decides}
 use Rattle.mj_base.specs.ServiceName.{is_reserved}
 use Rattle.mj_base.specs.declared.event.Out.{Out}
-use Rattle.mj_base.specs.declared.event.Out.TheVariants.{End}
 use Rattle.mj_base.specs.declared.reason.Reason.{Reason}
-use Rattle.mj_base.specs.declared.reason.Reason.TheVariants.{QueueFull, Slow}
+use Rattle.mj_base.specs.declared.reason.Reason.TheVariants.{QueueFull}
 use Rattle.mj_client_cmd.specs.declared.command.ClientCmd.{ClientCmd}
 use Rattle.mj_greeting.specs.GreetingGrammar.{broker_greeting}
 use Rattle.mj_handshake.specs.ReadyGrammar.{ready_frame}
@@ -17,7 +16,6 @@ use Rattle.mj_queue.specs.Settling.{Pair, is_too_much, pair, queued}
 use Rattle.mj_queue.specs.declared.request.Origin.{Origin}
 use Rattle.mj_queue.specs.declared.request.Origin.TheVariants as origins
 use Rattle.mj_queue.specs.declared.request.Request.{Request}
-use Rattle.mj_tickets.specs.declared.command.TicketCmd.{TicketCmd}
 use Rattle.mj_worker_cmd.specs.declared.command.OrderAct.TheVariants as order
 use Rattle.mj_worker_cmd.specs.declared.command.WorkerAct.{WorkerAct}
 use Rattle.mj_worker_cmd.specs.declared.command.WorkerAct.TheVariants as act
@@ -30,20 +28,20 @@ use Rattle.mj_machine.specs.declared.connection.Voice.{Voice}
 use Rattle.mj_machine.specs.declared.said.Said.{Said}
 use Rattle.mj_machine.specs.declared.said.Said.TheVariants.{Asks, Neither, Serves}
 use Rattle.mj_machine.specs.StoreState.{told_by}
-use Rattle.mj_machine.specs.MachineState.{Act, Done, State, Whole}
-use Rattle.mj_machine.specs.Connections.{changed, connection_of, is_asking, number_on, service_in, service_of, voice_of, worker_voice}
-use Rattle.mj_machine.specs.Acts.{Doing, behind, quiet, ◌then◌}
-use Rattle.mj_machine.specs.Leaving.{becomes, comes_back, ends, goes, held_by, removed}
-use Rattle.mj_machine.specs.Sending.{address, is_slow, order_text, reply_text, sends, sends_if, sends_to}
-use Rattle.mj_machine.specs.DiskActs.{attempted, counted, fails, reading, routed, routes}
-use Rattle.mj_machine.specs.Pairing.{body_for, body_from, dispatched, dispatches, handed, hands, marks, mark_set, passes, request_text, waits, with_body}
-use Rattle.mj_machine.specs.MessageStep.{answers_itself, as_client, asks, asks_by, begins, delivers, delivers_back, delivers_to, departs, enqueues, is_two, marked, queues, registers, replied, replied_by, request_of, rests, same_version, said_in, says, says_by, strays, unexpected, voice_in, works, works_by, works_on}
+use Rattle.mj_machine.specs.MachineState.{Done, State, Whole}
+use Rattle.mj_machine.specs.Connections.{connection_of, is_asking, number_on, service_in, service_of, voice_of, worker_voice}
+use Rattle.mj_machine.specs.Acts.{Doing, quiet, ◌then◌}
+use Rattle.mj_machine.specs.Leaving.{comes_back, ends, goes, held_by}
+use Rattle.mj_machine.specs.Sending.{address, order_text, reply_text, sends}
+use Rattle.mj_machine.specs.DiskActs.{attempted, counted, fails, routed, routes}
+use Rattle.mj_machine.specs.Pairing.{body_for, body_from, dispatched, handed, hands, marks, mark_set, passes, request_text, waits, with_body}
+use Rattle.mj_machine.specs.MessageStep.{as_client, asks, asks_by, begins, delivers, delivers_to, departs, enqueues, is_two, marked, queues, replied, replied_by, request_of, rests, same_version, said_in, says, says_by, strays, unexpected, voice_in, works, works_by, works_on}
 use Rattle.mj_machine.specs.TitanicStep.{titanic_of}
-use Rattle.mj_machine.specs.EventStep.{closes, closes_on, ends_at, ends_by, opened, reports, reports_on}
+use Rattle.mj_machine.specs.EventStep.{closes, ends_by, opened, reports}
 use Rattle.mj_machine.specs.Steps.{Beat, Cause, Closing, Expiry, IsAllowed, Item, Opening, Paired, Report, Time, acts, item_act}
-use Rattle.mj_machine.proofs.Changes.{Answers, Beats, Delivers, Finishes, Greets, Hands, HoldsNoPending, IsCarried, IsKept, IsNoServer, IsReplyOf, ReadsTicket, Refuses, Says, Shakes, Why, given_over, kept-carried, on, registered}
+use Rattle.mj_machine.proofs.Changes.{Answers, Beats, Delivers, Finishes, Greets, Hands, HoldsNoPending, IsCarried, IsKept, IsNoServer, IsReplyOf, ReadsTicket, Refuses, Says, Shakes, given_over, kept-carried, on, registered}
 use Rattle.mj_machine.proofs.LookLemmas.{delivers-held, delivers-service, heard-client, heard-service, look-changed}
-use Rattle.mj_machine.proofs.StoreWalk.{StoresEnd, stores-end, walk-serves, walk-stores}
+use Rattle.mj_machine.proofs.StoreWalk.{stores-end, walk-serves, walk-stores}
 use Rattle.mj_machine.proofs.SendWalk.{walk-sends}
 
 module _ (cause : Cause) (w0 : Whole) (P : Doing Whole Out → Type 0) (carried : IsCarried cause w0 P) where
