@@ -1,0 +1,4 @@
+mod PlaceLemmas
+mod RequestLemmas
+mod TurnLemmas
+mod RunLemmas

@@ -1,0 +1,4 @@
+pub mod Performing
+pub mod Requests
+pub mod Feeding
+pub mod ClientRun
