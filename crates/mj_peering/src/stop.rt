@@ -1,7 +1,7 @@
 use mj_base::NoMemory;
 
 /// Why a run broke off.
-#[derive(Clone, Copy)]
+#[derive(Clone, Copy, Debug, PartialEq, Eq)]
 pub enum Stop {
     /// There was no memory.
     NoMemory,
