@@ -3,3 +3,6 @@ pub mod Asking
 pub mod Reading
 pub mod Beginning
 pub mod Found
+pub mod Housing
+pub mod BodyReading
+pub mod Chains

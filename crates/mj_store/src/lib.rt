@@ -2,10 +2,13 @@
 //! in the file.
 #![tactic(auto)]
 
+mod bodies;
 mod fault;
+mod laws;
 mod opening;
 mod store;
 
-pub use fault::AcceptFault;
+pub use fault::{AcceptFault, BodyFault};
+pub use laws::images_open_again;
 pub use mj_journal::{AppendFault, OpenFault};
-pub use store::Store;
+pub use store::{Store, can_be_kept};

@@ -1,10 +1,11 @@
-ghost use Rattle.std.specs.Prelude.{◌≡◌, ◌≢◌, true, false, None, Some, is_some, List, [], ◌∷◌, ◌++◌, ◌+◌, ◌<◌, ◌≤◌, ◌^◌, ◌↔◌, length, OnOk, OnErr, IfOk, IsErrOf, ℕ, Bool, option_map};
+ghost use Rattle.std.specs.Prelude.{◌≡◌, ◌≢◌, true, false, None, Some, is_some, List, [], ◌∷◌, ◌++◌, ◌+◌, ◌<◌, ◌≤◌, ◌^◌, ◌↔◌, length, OnOk, OnErr, IfOk, IsErrOf, IsTrue, ℕ, Bool, option_map};
 ghost use Rattle.mj_base.specs.Rising.{Rose};
 ghost use Rattle.mj_ids.specs.Ids.{id_of, number_of};
 ghost use Rattle.mj_tickets.specs.declared.command.TicketCmd.TheVariants.{Accept, Store as Stores, Close};
 ghost use Rattle.mj_tickets.specs.Payload.{Fits, IsCommand, payload_of};
 ghost use Rattle.mj_tickets.specs.Fold;
-ghost use Rattle.mj_tickets.specs.Fold.{applied, known, ticket_of};
+ghost use Rattle.mj_tickets.specs.Fold.{applied, known, ticket_of, Ticket};
+ghost use Rattle.mj_tickets.specs.declared.place.Place.{Place};
 ghost use Rattle.mj_tickets.specs.Index.{listed_as, pending_as, place_in, state_in};
 ghost use Rattle.mj_tickets.specs.Laws.{AreNumbered};
 ghost use Rattle.mj_store.specs.Commands.{CanBeKept, is_pending_at};
@@ -15,9 +16,12 @@ use mj_base::{Frames, Limits, Name, NoMemory, Octets};
 use mj_disk::Disk;
 use mj_ids::TicketId;
 use mj_journal::{AppendFault, Journal};
-use mj_tickets::{ApplyFault, TicketCmd, TicketState, Tickets, write_cmd};
+use mj_tickets::{ApplyFault, TicketCmd, TicketState, Tickets, text_len, write_cmd};
 use std::alloc::Global;
 use std::marker::Model;
+
+/// The greatest length of a body's text behind the head of whatever command, in bytes.
+const LONGEST_BODY: u64 = 2_096_879;
 
 /// The open tickets of a file.
 #[derive(Debug, Drop)]
@@ -58,7 +62,7 @@ impl Store {
         ensures limits { self.new.limits ≡ self.old.limits }
 
         ensures spent { IsErrOf result AcceptFault.Spent ↔ (self.old.spent ≡ true) }
-        ensures full { IsErrOf result AcceptFault.Full → is_full (length (payload_of (Accept (id_of seed.now self.old.index.next) service.now body.now))) self.old ≡ true }
+        ensures full { IsErrOf result AcceptFault.Full ↔ ((self.old.spent ≡ false) × (is_full (length (payload_of (Accept (id_of seed.now self.old.index.next) service.now body.now))) self.old ≡ true)) }
         ensures room { OnOk result (is_full (length (payload_of (Accept (id_of seed.now self.old.index.next) service.now body.now))) self.old ≡ false) }
         ensures room_at_fault { IsErrOf result AcceptFault.DiskFault → is_full (length (payload_of (Accept (id_of seed.now self.old.index.next) service.now body.now))) self.old ≡ false }
         ensures spent_same { IsErrOf result AcceptFault.Spent → (self.new ≡ self.old) × (disk.new ≡ disk.old) }
@@ -78,6 +82,9 @@ impl Store {
             return Err(AcceptFault::Spent);
         }
         let id = TicketId::of(seed, self.next());
+        if self.is_full(accept_len(&id, service, body)) {
+            return Err(AcceptFault::Full);
+        }
         let Ok(body) = body.copy() else {
             return Err(AcceptFault::NoMemory);
         };
@@ -89,9 +96,6 @@ impl Store {
         let Ok(payload) = payload(alloc, &cmd) else {
             return Err(AcceptFault::NoMemory);
         };
-        if self.is_full(payload.len()) {
-            return Err(AcceptFault::Full);
-        }
         match self.add(alloc, disk, &cmd, payload.as_slice()) {
             Ok(()) => Ok(id),
             Err(AppendFault::Spent) => Err(AcceptFault::Spent),
@@ -181,7 +185,10 @@ impl Store {
 
     /// What is told of the ticket with this whole id.
     pub fn look(&self, id: &TicketId) -> TicketState
-        ensures { result ≡ state_in (known id.now self.now.index) }
+        ensures value { result ≡ state_in (known id.now self.now.index) }
+
+        // It is then the open ticket of its number.
+        ensures number { (t : Ticket Place) → known id.now self.now.index ≡ Some t → ticket_of (number_of id.now) self.now.index ≡ Some t }
     {
         self.tickets.state(id)
     }
@@ -232,12 +239,12 @@ impl Store {
         self.journal.end()
     }
 
-    fn is_full(&self, size: usize) -> bool
+    fn is_full(&self, size: u64) -> bool
         requires { size ≤ 2097152 }
         ensures { result ≡ is_full size self.now }
     {
         self.tickets.open() >= self.limits.tickets
-            || self.journal.end() + size as u64 + 6 > self.limits.file
+            || self.journal.end() + size + 6 > self.limits.file
     }
 
     /// Appends a lawful command to the file, and applies it. All memory is taken before the first call of the disk.
@@ -291,6 +298,28 @@ impl Store {
             Err(ApplyFault::NoMemory) => unreachable!(),
         }
     }
+}
+
+/// Whether a body can be kept, whatever its ticket's service is: at most 65,535 frames, and a text of at most 2,096,879
+/// bytes, which are 4 for each frame and 2 more than the frames have.
+#[tactic(auto, using(mj_tickets::proofs::LengthLemmas::text_length))]
+pub fn can_be_kept(body: &Frames) -> bool
+    ensures { IsTrue result ↔ CanBeKept body.now }
+{
+    if body.len() > 65_535 || body.octets() > LONGEST_BODY {
+        return false;
+    }
+    text_len(body) <= LONGEST_BODY
+}
+
+/// The length of an accept's payload.
+fn accept_len(id: &TicketId, service: &Name, body: &Frames) -> u64
+    requires { CanBeKept body.now }
+    ensures size { result ≡ length (payload_of (Accept id.now service.now body.now)) }
+    ensures small { result ≤ 2097152 }
+{
+    let head = 2 + id.octets().len() + service.as_slice().len();
+    head as u64 + text_len(body)
 }
 
 /// The payload of a command.

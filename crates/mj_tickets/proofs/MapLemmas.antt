@@ -11,7 +11,7 @@ use Rattle.mj_tickets.specs.Index.{Placed, cmd_of}
 use Rattle.mj_tickets.specs.Laws.{mapped, map_fold, housed, place_at, body_at, PlacesAndBodies}
 
 module _ {B C : Type 0} (h : B → C) where
-  find-map : (n : ℕ) (ts : List (Ticket B)) → find (numbered n) (map (mapped h) ts) ≡ option_map (mapped h) (find (numbered n) ts)
+  pub find-map : (n : ℕ) (ts : List (Ticket B)) → find (numbered n) (map (mapped h) ts) ≡ option_map (mapped h) (find (numbered n) ts)
   find-map n [] = refl
   find-map n (t ∷ ts) = chosen (t.number == n) (find-map n ts)
     where

@@ -62,7 +62,7 @@ fn body_fits(head: u64, body: &Frames) -> bool
 
 /// The length in bytes of a body's text.
 #[tactic(auto, using(crate::proofs::LengthLemmas::text_length))]
-pub(crate) fn text_len(body: &Frames) -> u64
+pub fn text_len(body: &Frames) -> u64
     requires { length (body_text body.now) < 2 ^ 63 }
     ensures { result ≡ length (body_text body.now) }
 {

@@ -11,7 +11,7 @@ mod state;
 mod tickets;
 mod writing;
 
-pub use command::TicketCmd;
+pub use command::{TicketCmd, text_len};
 pub use fault::ApplyFault;
 pub use laws::{
     accepts_follow_the_base, open_tickets_are_numbered, payloads_are_of_one_command,
