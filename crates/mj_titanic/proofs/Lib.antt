@@ -1,0 +1,5 @@
+pub mod Composing
+pub mod Attempts
+pub mod Appends
+pub mod Alike
+pub mod Bodies

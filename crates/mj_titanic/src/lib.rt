@@ -1,0 +1,10 @@
+//! What keeps tickets (ZeroMQ RFC 9): acts on the disk, as the broker's events make them.
+#![tactic(auto)]
+
+mod acts;
+mod fault;
+mod keeper;
+
+pub use acts::Keeping;
+pub use fault::ActFault;
+pub use keeper::{Keeper, Shelf};
