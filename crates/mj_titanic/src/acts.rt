@@ -21,7 +21,7 @@ use std::alloc::Global;
 
 /// What keeps tickets, inside an event, and how many acts on the disk the event has made. Where an act fails, the caller
 /// drops what tickets have queued.
-#[derive(Debug, Drop)]
+#[derive(Drop)]
 pub struct Keeping {
     pub keeper: Keeper,
     pub acts: u32,

@@ -2,7 +2,7 @@ use mj_base::Limits;
 use mj_store::Store;
 
 /// Where the tickets are.
-#[derive(Debug, Drop)]
+#[derive(Drop)]
 pub enum Shelf {
     /// There is no store.
     Absent,
@@ -13,7 +13,7 @@ pub enum Shelf {
 }
 
 /// What keeps tickets.
-#[derive(Debug, Drop)]
+#[derive(Drop)]
 pub struct Keeper {
     pub limits: Limits,
     /// What the ids of tickets are drawn from.
