@@ -1,4 +1,4 @@
-//! Tests of the broker and of the top call, which stand apart so that their crates are proved once.
+//! Tests of the top call, which stand apart so that its crate is proved once.
 #![tactic(auto)]
 
 #[cfg(test)]
