@@ -11,7 +11,7 @@ use Rattle.mj_store.specs.Standing.{Adds, Doubts, Keeps, LeavesWithOrWithout, St
 use Rattle.mj_machine.specs.Acts.{quiet}
 use Rattle.mj_machine.specs.DiskActs.{appending, clients_alone, reading}
 use Rattle.mj_titanic.specs.declared.fault.ActFault.{ActFault}
-use Rattle.mj_titanic.specs.declared.keeper.Shelf.TheVariants as shelves
+use Rattle.mj_keeper.specs.declared.keeper.Shelf.TheVariants as shelves
 use Rattle.mj_titanic.specs.Acting.{Did, IsRefused, Parts, Stopped, around}
 use Rattle.mj_titanic.proofs.Attempts.{attempt-did, attempt-failed, attempt-stopped}
 

@@ -19,10 +19,10 @@ use Rattle.mj_machine.specs.Acts.{quiet}
 use Rattle.mj_machine.specs.DiskActs.{attempted, clients_alone, fails, says_shut}
 use Rattle.mj_machine.proofs.ConnectionLemmas.{agrees, equal}
 use Rattle.mj_titanic.specs.declared.fault.ActFault.{ActFault}
-use Rattle.mj_titanic.specs.declared.keeper.Keeper.{Keeper}
-use Rattle.mj_titanic.specs.declared.keeper.Shelf.{Shelf}
-use Rattle.mj_titanic.specs.declared.keeper.Shelf.TheVariants as shelves
-use Rattle.mj_titanic.specs.Standing.{GoesOn, IsOneOf, IsSound, MayLeave, Sees, StandsBy}
+use Rattle.mj_keeper.specs.declared.keeper.Keeper.{Keeper}
+use Rattle.mj_keeper.specs.declared.keeper.Shelf.{Shelf}
+use Rattle.mj_keeper.specs.declared.keeper.Shelf.TheVariants as shelves
+use Rattle.mj_keeper.specs.Standing.{GoesOn, IsOneOf, IsSound, MayLeave, Sees, StandsBy}
 use Rattle.mj_titanic.specs.Acting.{Agree, AreOf, Did, Ends, IsAt, IsRefused, Parts, Stopped, around}
 use Rattle.mj_titanic.proofs.Composing.{one-of-first, one-of-second}
 

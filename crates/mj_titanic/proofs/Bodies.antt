@@ -7,9 +7,9 @@ use Rattle.mj_tickets.specs.Fold.{Fold, Ticket, ticket_of}
 use Rattle.mj_store.specs.Bodies.{GivesBody, GivesReply, reply_at}
 use Rattle.mj_store.specs.Standing.{StoreValue}
 use Rattle.mj_machine.specs.StoreState.{body_in, tickets_of}
-use Rattle.mj_titanic.specs.declared.keeper.Keeper.{Keeper}
-use Rattle.mj_titanic.specs.declared.keeper.Shelf.TheVariants as shelves
-use Rattle.mj_titanic.specs.Standing.{IsTicketBody, IsTicketReply, reply_of}
+use Rattle.mj_keeper.specs.declared.keeper.Keeper.{Keeper}
+use Rattle.mj_keeper.specs.declared.keeper.Shelf.TheVariants as shelves
+use Rattle.mj_keeper.specs.Standing.{IsTicketBody, IsTicketReply, reply_of}
 use Rattle.mj_titanic.proofs.Alike.{has-both}
 use Rattle.mj_titanic.proofs.Attempts.{opens-on}
 

@@ -15,7 +15,7 @@ use Rattle.mj_machine.specs.MachineState.{Act, Whole}
 use Rattle.mj_machine.specs.Acts.{Doing, ◌then◌}
 use Rattle.mj_machine.specs.DiskActs.{notes_in, says_found, says_shut}
 use Rattle.mj_titanic.specs.declared.fault.ActFault.{ActFault}
-use Rattle.mj_titanic.specs.Standing.{GoesOn, IsOneOf}
+use Rattle.mj_keeper.specs.Standing.{GoesOn, IsOneOf}
 use Rattle.mj_titanic.specs.Acting.{Agree, AreOf, Did, Ends, IsAt, IsRefused, Parts, RoseBy, Stopped, shut_count}
 
 -- ---- notes

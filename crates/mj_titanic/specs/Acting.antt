@@ -9,11 +9,11 @@ use Rattle.mj_machine.specs.StoreState.{Store}
 use Rattle.mj_machine.specs.MachineState.{Act, State, Whole}
 use Rattle.mj_machine.specs.Acts.{Doing}
 use Rattle.mj_machine.specs.DiskActs.{clients_alone, notes_in, says_found, says_shut}
-use Rattle.mj_titanic.specs.Standing.{GoesOn, Sees}
+use Rattle.mj_keeper.specs.Standing.{GoesOn, Sees}
 use Rattle.mj_titanic.specs.declared.fault.ActFault.{ActFault}
 use Rattle.mj_titanic.specs.declared.fault.ActFault.TheVariants.{NoMemory, Refused}
-use Rattle.mj_titanic.specs.declared.keeper.Keeper.{Keeper}
-use Rattle.mj_titanic.specs.declared.keeper.Shelf.TheVariants.{Absent}
+use Rattle.mj_keeper.specs.declared.keeper.Keeper.{Keeper}
+use Rattle.mj_keeper.specs.declared.keeper.Shelf.TheVariants.{Absent}
 use Rattle.mj_titanic.specs.declared.acts.Keeping.{Keeping}
 
 -- ---- where an event stands

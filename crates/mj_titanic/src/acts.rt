@@ -9,11 +9,11 @@ ghost use Rattle.mj_store.specs.Commands.{CanBeKept, is_pending_at};
 ghost use Rattle.mj_tickets.specs.Fold.{ticket_of};
 ghost use Rattle.mj_tickets.specs.declared.command.TicketCmd.TheVariants as cmds;
 ghost use Rattle.mj_titanic.specs.Acting.{Did, Stopped, around, core_behind, parts};
-ghost use Rattle.mj_titanic.specs.Standing.{IsOpenWith, IsSound, IsTicketBody, IsTicketReply, is_open};
-ghost use Rattle.mj_titanic.specs.declared.keeper.Shelf.TheVariants as shelves;
+ghost use Rattle.mj_keeper.specs.Standing.{IsOpenWith, IsSound, IsTicketBody, IsTicketReply, is_open};
+ghost use Rattle.mj_keeper.specs.declared.keeper.Shelf.TheVariants as shelves;
 
 use crate::fault::ActFault;
-use crate::keeper::{Keeper, Shelf};
+use mj_keeper::{Keeper, Shelf};
 use mj_base::{Frames, NoMemory, Note, Out};
 use mj_disk::Disk;
 use mj_store::{AppendFault, BodyFault, OpenFault};

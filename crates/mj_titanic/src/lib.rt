@@ -3,8 +3,8 @@
 
 mod acts;
 mod fault;
-mod keeper;
+
 
 pub use acts::Keeping;
 pub use fault::ActFault;
-pub use keeper::{Keeper, Shelf};
+

@@ -2,7 +2,7 @@ use Rattle.std.proofs.Common.{ℕ, ap, ◌∙◌, refl}
 use Rattle.std.proofs.Common.{Some}
 use Rattle.mj_tickets.specs.declared.command.TicketCmd.TheVariants as cmds
 use Rattle.mj_titanic.specs.declared.fault.ActFault.TheVariants.{NoMemory}
-use Rattle.mj_titanic.specs.declared.keeper.Shelf.TheVariants as shelves
+use Rattle.mj_keeper.specs.declared.keeper.Shelf.TheVariants as shelves
 use Rattle.mj_titanic.specs.Acting.{parts}
 use Rattle.mj_titanic.proofs.Composing.{stopped-still}
 use Rattle.mj_titanic.proofs.Attempts.{sound-done, sound-failed}

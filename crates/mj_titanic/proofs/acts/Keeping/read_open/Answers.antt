@@ -3,9 +3,9 @@ use Rattle.mj_store.specs.Standing.{StoreValue}
 use Rattle.std.proofs.Common.{None}
 use Rattle.mj_store.specs.Bodies.{IsDamage}
 use Rattle.mj_titanic.specs.declared.fault.ActFault.TheVariants.{NoMemory, Refused}
-use Rattle.mj_titanic.specs.declared.keeper.Shelf.{Shelf}
-use Rattle.mj_titanic.specs.declared.keeper.Shelf.TheVariants as shelves
-use Rattle.mj_titanic.specs.Standing.{IsOpenWith}
+use Rattle.mj_keeper.specs.declared.keeper.Shelf.{Shelf}
+use Rattle.mj_keeper.specs.declared.keeper.Shelf.TheVariants as shelves
+use Rattle.mj_keeper.specs.Standing.{IsOpenWith}
 use Rattle.mj_tickets.specs.Fold.{ticket_of}
 use Rattle.mj_titanic.specs.Acting.{parts}
 use Rattle.mj_titanic.proofs.Composing.{stopped-still}

@@ -7,9 +7,9 @@ use Rattle.mj_machine.specs.StoreState.{IsShut, Store, Told, doubted, pends, tic
 use Rattle.mj_store.specs.Commands.{OpensFor}
 use Rattle.mj_store.specs.Standing.{Holds, IsInDoubt, IsTelling, StoreValue}
 use Rattle.mj_tickets.specs.Fold.{Ticket, ticket_of}
-use Rattle.mj_titanic.specs.declared.keeper.Keeper.{Keeper}
-use Rattle.mj_titanic.specs.declared.keeper.Shelf.{Shelf}
-use Rattle.mj_titanic.specs.declared.keeper.Shelf.TheVariants as shelves
+use Rattle.mj_keeper.specs.declared.keeper.Keeper.{Keeper}
+use Rattle.mj_keeper.specs.declared.keeper.Shelf.{Shelf}
+use Rattle.mj_keeper.specs.declared.keeper.Shelf.TheVariants as shelves
 
 -- ---- the shelf
 
