@@ -1,5 +1,5 @@
 -- What was read as a ticket's body, or as its reply, can be written again.
-use Rattle.std.proofs.Common.{◌≡◌, ◌≢◌, ℕ, ◌+◌, ◌≤◌, ◌==◌, Bool, true, false, cond, not, List, [], ◌∷◌, ◌++◌, length, filter, find, Option, Some, None, option_map, option_and_then, IfSome, refl, sym, ap, subst, ◌∙◌, arith, length-append}
+use Rattle.std.proofs.Common.{◌≡◌, ℕ, ◌+◌, ◌≤◌, ◌==◌, Bool, true, false, cond, not, List, [], ◌∷◌, ◌++◌, length, filter, find, Option, Some, None, option_map, option_and_then, IfSome, refl, subst, arith, length-append}
 use Rattle.std.proofs.lemmas.Option.{same_Some, none-some, option_and_then_some}
 use Rattle.std.specs.List.{AllByRecursion}
 use Rattle.mj_disk.specs.declared.disk.Disk.{Ghosts}
@@ -8,11 +8,11 @@ use Rattle.mj_tickets.specs.declared.command.TicketCmd.TheVariants.{Accept, Stor
 use Rattle.mj_tickets.specs.declared.place.Place.{Place}
 use Rattle.mj_tickets.specs.Payload.{Fits, body_text, number_octets, payload_of}
 use Rattle.mj_tickets.specs.Fold.{Fold, Ticket, applied, changed_first, numbered, replied, start, ticket_of}
-use Rattle.mj_tickets.specs.Index.{Placed, cmd_of, indexed, place_of}
+use Rattle.mj_tickets.specs.Index.{Placed, indexed, place_of}
 use Rattle.mj_tickets.proofs.FoldLemmas.{Does, does, new_ticket}
 use Rattle.mj_tickets.proofs.LengthLemmas.{length-number_octets}
 use Rattle.mj_store.specs.Bodies.{HasText, body_at, reply_at}
-use Rattle.mj_store.specs.Commands.{IsWritten, index_of, placed_from}
+use Rattle.mj_store.specs.Commands.{IsWritten, placed_from}
 use Rattle.mj_store.specs.Standing.{IsHeld, StoreValue}
 use Rattle.mj_compact.specs.Compacting.{FitsAccept, FitsReply}
 
@@ -60,7 +60,7 @@ fits_step at (Close number) f g w all d = subst (λ (h : Fold Place). AllByRecur
 fits_all : (gate : ℕ) (cmds : List TicketCmd) (f g : Fold Place) → AllByRecursion IsWritten cmds → AllByRecursion FitsIn f.tickets → indexed (placed_from gate cmds) f ≡ Some g → AllByRecursion FitsIn g.tickets
 fits_all gate [] f g w all e = subst (λ (h : Fold Place). AllByRecursion FitsIn h.tickets) (same_Some f g e) all
 fits_all gate (cmd ∷ cmds) f g w all e =
-    let p = record { at = gate + 5; cmd = cmd } in
+    let p : Placed = record { at = gate + 5; cmd = cmd } in
     let rest = placed_from (gate + (length (payload_of cmd) + 5)) cmds in
     option_and_then_some (indexed rest) (applied cmd (place_of p) f) g e (λ h was is.
     fits_all (gate + (length (payload_of cmd) + 5)) cmds h g w.1 (fits_step (gate + 5) cmd f h w.0 all (does cmd (place_of p) f h was)) is)

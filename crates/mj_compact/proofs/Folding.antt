@@ -1,7 +1,6 @@
 -- The commands that make tickets anew: what they leave, and how long they are.
-use Rattle.std.proofs.Common.{◌≡◌, ℕ, ◌+◌, ◌<◌, ◌≤◌, ◌==◌, Bool, true, false, cond, not, ltb, leb, List, [], ◌∷◌, ◌++◌, length, map, filter, find, Option, Some, None, is_some, IfSome, refl, sym, ap, subst, ◌∙◌, arith, append_assoc, append-nil, length-append}
-use Rattle.std.proofs.lemmas.Bool.{lt-ltb, le-leb, lt-leb, eq-eqb, ne_eqb, eqb-true, cases_eq}
-use Rattle.std.proofs.lemmas.List.{map-append}
+use Rattle.std.proofs.Common.{◌≡◌, ℕ, ◌+◌, ◌<◌, ◌≤◌, ◌==◌, Bool, true, false, cond, not, ltb, leb, List, [], ◌∷◌, ◌++◌, length, map, filter, find, Option, Some, None, IfSome, refl, sym, ap, subst, ◌∙◌, arith, append_assoc, append-nil, length-append}
+use Rattle.std.proofs.lemmas.Bool.{lt-ltb, le-leb, eq-eqb, ne_eqb, eqb-true}
 use Rattle.std.proofs.lemmas.Option.{same_Some, option_and_then_some}
 use Rattle.std.specs.List.{AllByRecursion}
 use Rattle.mj_ids.specs.Ids.{number_of}
@@ -9,9 +8,9 @@ use Rattle.mj_journal.specs.FileText.{sizes}
 use Rattle.mj_tickets.specs.declared.command.TicketCmd.{TicketCmd}
 use Rattle.mj_tickets.specs.declared.command.TicketCmd.TheVariants.{Accept, Store, Close}
 use Rattle.mj_tickets.specs.Payload.{body_of, body_text, number_octets, payload_of}
-use Rattle.mj_tickets.specs.Fold.{Ticket, Fold, start, accepted, numbered, ticket_of, changed_first, replied, stored, applied, folded_by, folded, fold_of, RisesTo, number_in, IsNamed}
+use Rattle.mj_tickets.specs.Fold.{Ticket, Fold, start, numbered, ticket_of, changed_first, replied, applied, folded, fold_of, RisesTo, number_in, IsNamed}
 use Rattle.mj_tickets.specs.Laws.{AreNumbered}
-use Rattle.mj_tickets.proofs.FoldLemmas.{Does, does, fold_numbered, new_ticket}
+use Rattle.mj_tickets.proofs.FoldLemmas.{Does, does, new_ticket}
 use Rattle.mj_tickets.proofs.LengthLemmas.{length-number_octets}
 use Rattle.mj_tickets.proofs.RisingLemmas.{rises_bound}
 use Rattle.mj_store.specs.Commands.{payloads_of, IsWritten}
@@ -22,7 +21,7 @@ Body = List (List ℕ)
 
 -- ---- lists
 
-kept_push : (ts : List (Ticket Body)) (t : Ticket Body) → kept_all (ts ++ t ∷ []) ≡ kept_all ts ++ kept_ticket t
+pub kept_push : (ts : List (Ticket Body)) (t : Ticket Body) → kept_all (ts ++ t ∷ []) ≡ kept_all ts ++ kept_ticket t
 kept_push [] t = append-nil (kept_ticket t)
 kept_push (u ∷ ts) t = ap (λ (cs : List TicketCmd). kept_ticket u ++ cs) (kept_push ts t) ∙ sym (append_assoc (kept_ticket u) (kept_all ts) (kept_ticket t))
 
@@ -239,9 +238,11 @@ all_again (t ∷ ts) done low high highest next rise le small below named =
     let bound = rises_bound t.number (map number_in ts) high rise.1 in
     let one = ticket_again done highest next t named.0 (below_more (low + 1) t.number done (omega (arith, rise.0)) below) (omega (arith, rise.0, le)) (omega (arith, bound, small)) in
     let rest = all_again ts (done ++ t ∷ []) t.number high t.number next rise.1 (omega arith) small
-        (below_push (t.number + 1) done t (below_more (low + 1) (t.number + 1) done (omega (arith, rise.0)) below) (omega arith)) named.1 in
-    (rest.0, folded-append (kept_ticket t) (kept_all ts) (made done highest next) (made (done ++ t ∷ []) t.number next) one ∙ rest.1
-        ∙ ap (λ (us : List (Ticket Body)). Some (made us rest.0 next)) (append_assoc done (t ∷ []) ts))
+    (below_push (t.number + 1) done t (below_more (low + 1) (t.number + 1) done (omega (arith, rise.0)) below) (omega arith)) named.1 in (
+      rest.0,
+      folded-append (kept_ticket t) (kept_all ts) (made done highest next) (made (done ++ t ∷ []) t.number next) one ∙ rest.1
+          ∙ ap (λ (us : List (Ticket Body)). Some (made us rest.0 next)) (append_assoc done (t ∷ []) ts),
+    )
 
 pub leaves_tickets : (f : Fold Body) → AreNumbered f → LeavesTickets f (kept f)
 leaves_tickets f p =

@@ -3,7 +3,7 @@
 
 mod copying;
 mod fault;
+mod files;
 
 pub use fault::CompactFault;
-
-pub use copying::{append, read_body, read_reply};
+pub use files::compact;
