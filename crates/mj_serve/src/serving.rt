@@ -168,9 +168,10 @@ fn begin<D: Disk>(
     ensures silent { D.told disk.new ≡ None → D.told disk.old ≡ None }
     ensures count { D.faults disk.old ≤ D.faults disk.new }
 {
-    let Ok(()) = disk.sync() else {
-        return Err(ServeFault::DiskFault);
-    };
+    match disk.sync() {
+        Ok(()) => {}
+        Err(_failed) => return Err(ServeFault::DiskFault),
+    }
     match Broker::new(alloc, limits, seed, None) {
         Ok(broker) => Ok(broker),
         Err(NoMemory) => Err(ServeFault::NoMemory),
