@@ -3,6 +3,7 @@ mod Leaving
 mod Staying
 mod Going
 mod Laws
+mod Alone
 mod Beginning
 mod Ending
 mod Refusing

@@ -1,6 +1,5 @@
 -- Why a run ended early.
-use Rattle.std.specs.Prelude.{◌≡◌, Option}
-use Rattle.mj_disk.specs.Content.{Content}
+use Rattle.std.specs.Prelude.{Option}
 use Rattle.mj_disk.specs.DiskModel.{History}
 use Rattle.mj_journal.specs.declared.fault.OpenFault.{OpenFault}
 use Rattle.mj_journal.specs.declared.fault.OpenFault.TheVariants as opening
@@ -23,10 +22,6 @@ IsUnserved (faults.Version version) before after = IsUnopened (opening.Version v
 IsUnserved (faults.Damaged at) before after = IsUnopened (opening.Damaged at) before after
 IsUnserved faults.DiskFault before after = Unit {0}
 IsUnserved faults.NoMemory before after = Unit {0}
-
--- the bytes are as they were
-abbrev pub SameBytes : Content → Content → Type 0
-SameBytes old new = new.octets ≡ old.octets
 
 abbrev pub served_as : OpenFault → ServeFault
 served_as opening.NotAStore = faults.NotAStore

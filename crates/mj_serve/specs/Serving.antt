@@ -1,8 +1,9 @@
 -- What a run made of its ports and its disk.
-use Rattle.std.specs.Prelude.{ℕ, ◌≡◌, ◌≤◌, true, List, [], ◌++◌, length}
+use Rattle.std.specs.Prelude.{ℕ, ◌≡◌, ◌≤◌, true, List, [], ◌++◌, length, Option, Some}
 use Rattle.mj_base.specs.declared.event.Event.{Event}
 use Rattle.mj_base.specs.declared.limits.Limits.{Limits}
-use Rattle.mj_disk.specs.DiskModel.{IsSettled, LeavesOnly, Now}
+use Rattle.mj_disk.specs.Content.{IsImage}
+use Rattle.mj_disk.specs.DiskModel.{History, IsSettled, LeavesOnly, LeftSince, Now, Turns}
 use Rattle.mj_disk.specs.declared.disk.Disk.{Ghosts}
 use Rattle.mj_keeper.specs.Standing.{IsOneOf, MayLeave}
 use Rattle.mj_machine.specs.DiskActs.{notes_in}
@@ -32,6 +33,11 @@ pub record RanOver {P D : Type 0} (stand : P → P → List Event → List Entry
   pub stable : first.store.stored ≡ true → AreStable (disks.told disk) (disks.time disk) first.store.base (run_state limits first happened).store.commands given (marked limits first happened)
   pub crash : first.store.stored ≡ true → Now (disks.told began) IsSettled → LeavesOnly (disks.time began, disks.time disk) (disks.told began) (disks.told disk) (IsOneOf (stores_over limits first (happened ++ last)))
   pub count : RoseBy (shut_count (notes_in (run_outs limits first happened))) (disks.faults began) (disks.faults disk)
+
+-- the bytes are as they were, and a crash since the moment leaves what it might have left at it
+pub record IsLeftAlone (moment : ℕ) (before after : Option History) : Type 0 where
+  pub bytes : Turns (λ old new. new.octets ≡ old.octets) before after
+  pub images : (old : History) → before ≡ Some old → (image : List ℕ) → LeftSince after moment image → IsImage old.now image
 
 -- ---- how it ended
 

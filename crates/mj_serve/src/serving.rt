@@ -13,9 +13,9 @@ ghost use Rattle.mj_store.specs.Opening.{LeavesBegun, NoneLawful, OpensLawfully}
 ghost use Rattle.mj_store.specs.Standing.{IsTelling};
 ghost use Rattle.mj_tickets.specs.declared.command.TicketCmd.{TicketCmd as AnyCmd};
 ghost use Rattle.mj_serve.specs.Counts.{no_counts};
-ghost use Rattle.mj_serve.specs.Faults.{IsFileFault, IsUnserved, SameBytes};
+ghost use Rattle.mj_serve.specs.Faults.{IsFileFault, IsUnserved};
 ghost use Rattle.mj_serve.specs.Running.{Ran, RanOut};
-ghost use Rattle.mj_serve.specs.Serving.{EndedOver, EndedWithout, ServedOver, ServedWithout};
+ghost use Rattle.mj_serve.specs.Serving.{EndedOver, EndedWithout, IsLeftAlone, ServedOver, ServedWithout};
 
 use crate::fault::ServeFault;
 use crate::ports::Ports;
@@ -51,8 +51,8 @@ pub fn serve<P: Ports, D: Disk>(
     ensures ended { OnErr result (stored ≡ true → P.stand ports.old ports.old [] [] → (base : ℕ) (commands : List AnyCmd) → OpensLawfully base commands (D.told disk.old) → EndedOver P.stand D.Disk ports.old disk.old limits.now seed base commands ports.new disk.new) }
     ensures ended_without { OnErr result (stored ≡ false → P.stand ports.old ports.old [] [] → EndedWithout P.stand D.Disk ports.old disk.old limits.now ports.new disk.new) }
 
-    // Without a store the bytes are as they were.
-    ensures plain { stored ≡ false → Turns SameBytes (D.told disk.old) (D.told disk.new) }
+    // Without a store the bytes are as they were, and a crash leaves nothing new.
+    ensures plain { stored ≡ false → IsLeftAlone (D.time disk.old) (D.told disk.old) (D.told disk.new) }
 
     // A fault of the disk ends a run at its opening alone.
     ensures cause { IsErrOf result ServeFault.DiskFault → Rose (D.faults disk.old) (D.faults disk.new) × (ports.new ≡ ports.old) }
@@ -109,7 +109,7 @@ fn serve_without<P: Ports, D: Disk>(
     ensures served { IfOk result (λ summary. P.stand ports.old ports.old [] [] → ServedWithout P.stand D.Disk ports.old disk.old limits.now ports.new disk.new summary) }
     ensures stopped { OnOk result (P.stopped ports.new ≡ true) }
     ensures ended { OnErr result (P.stand ports.old ports.old [] [] → EndedWithout P.stand D.Disk ports.old disk.old limits.now ports.new disk.new) }
-    ensures plain { Turns SameBytes (D.told disk.old) (D.told disk.new) }
+    ensures plain { IsLeftAlone (D.time disk.old) (D.told disk.old) (D.told disk.new) }
     ensures cause { IsErrOf result ServeFault.DiskFault → Rose (D.faults disk.old) (D.faults disk.new) × (ports.new ≡ ports.old) }
     ensures refused { IfErr result (λ fault. IsFileFault fault → D.told disk.old ≡ None) }
 {
@@ -162,7 +162,7 @@ fn begin<D: Disk>(
     ensures limits { IfOk result (λ broker. limits_of broker ≡ limits.now) }
     ensures fresh { IfOk result (λ broker. broker.spent ≡ false) }
     ensures first { IfOk result (λ broker. broker.state.next ≡ 1) }
-    ensures plain { Turns SameBytes (D.told disk.old) (D.told disk.new) }
+    ensures plain { IsLeftAlone (D.time disk.old) (D.told disk.old) (D.told disk.new) }
     ensures kind { IfErr result (λ fault. ¬ IsFileFault fault) }
     ensures cause { IsErrOf result ServeFault.DiskFault → Rose (D.faults disk.old) (D.faults disk.new) }
     ensures silent { D.told disk.new ≡ None → D.told disk.old ≡ None }
