@@ -1,7 +1,7 @@
 -- A disk that is synced, or left as it is.
-use Rattle.std.proofs.Common.{◌≡◌, ◌≤◌, ℕ, List, Option, Some, None, is_some, refl, sym, ◌∙◌, subst, ap}
+use Rattle.std.proofs.Common.{◌≡◌, ◌≤◌, ℕ, Option, Some, refl, sym, ◌∙◌, subst, ap}
 use Rattle.mj_disk.specs.Content.{Content, IsImage, settled}
-use Rattle.mj_disk.specs.DiskModel.{Becomes, Changes, History, LeftSince, Syncs, latest}
+use Rattle.mj_disk.specs.DiskModel.{Becomes, Changes, History, Syncs, latest}
 use Rattle.mj_disk.proofs.Moments.{started, synced_on, told_only_now}
 use Rattle.mj_serve.specs.Serving.{IsLeftAlone}
 
