@@ -45,6 +45,9 @@ length-header_2 base = omega (arith, length-base_octets base)
 new_stands : (head : List ℕ) → Stands head [] (head ++ 0 ∷ [])
 new_stands head = record { blocks = []; rest = []; all_open = tt; holds = refl; spells = ap (λ (l : List ℕ). l ++ 0 ∷ []) (sym (append-nil head)) }
 
+pub made_stands : (new : List ℕ) → new ≡ header_2 1 ++ 0 ∷ [] → StandsFor 1 [] new
+made_stands new is = (header_2 1, inr (omega arith, omega arith, refl), subst (λ (l : List ℕ). Stands (header_2 1) [] l) (sym is) (new_stands (header_2 1)))
+
 -- what the bytes stand for afterwards, they opened as before
 pub opened_before : (base : ℕ) (payloads : List (List ℕ)) (old new : List ℕ) → IsKeptOrMade 1 base old new → StandsFor base payloads new → Opens base payloads old
 opened_before base payloads old new (inl kept) stands = inl (subst (λ (l : List ℕ). StandsFor base payloads l) kept.0 stands)

@@ -15,7 +15,7 @@ use Rattle.mj_tickets.specs.Fold.{Fold, start, applied}
 use Rattle.mj_tickets.specs.Index.{indexed, place_in}
 use Rattle.mj_journal.specs.declared.fault.OpenFault.{OpenFault}
 use Rattle.mj_journal.specs.declared.fault.OpenFault.TheVariants.{NotAStore, Version, Damaged, DiskFault, NoMemory}
-use Rattle.mj_journal.specs.FileText.{sizes, end_of}
+use Rattle.mj_journal.specs.FileText.{IsShort, StandsFor, sizes, end_of}
 use Rattle.mj_journal.specs.Opening.{IsKeptOrMade, IsBegun, IsNotBegun, IsBeginFault, IsRefused}
 use Rattle.mj_journal.specs.Opening as journal
 use Rattle.mj_journal.proofs.Standing.{not_refused, not_damaged, read_in_front}
@@ -23,8 +23,8 @@ use Rattle.mj_journal.proofs.Unique.{stands_short, opens_once}
 use Rattle.mj_store.specs.Commands.{payloads_of, IsWritten, IsBase, IsLawful, placed_from, index_of, StandsForCommands}
 use Rattle.mj_store.specs.Standing.{StoreValue, Holds, IsTelling, IsInDoubt}
 use Rattle.mj_store.specs.Opening as found
-use Rattle.mj_store.specs.Opening.{KeepsOrMakes, HasAll, IsBad, IsDamaged, IsUnread, IsUnopened, IsRefusal, NoneInDoubt, FindsDoubt, has_moved, found_if}
-use Rattle.mj_store.proofs.Beginning.{same_cmds, opened_before, kept_or_made}
+use Rattle.mj_store.specs.Opening.{KeepsOrMakes, HasAll, IsBad, IsDamaged, IsUnread, IsUnopened, IsRefusal, NoneInDoubt, NoneLawful, FindsDoubt, has_moved, found_if}
+use Rattle.mj_store.proofs.Beginning.{same_cmds, made_stands, opened_before, kept_or_made}
 
 -- ---- what was found
 
@@ -173,6 +173,38 @@ read_refuses_none disks disk mid (Damaged at) base size reads begun unread refus
     let now = begun telling.0 telling.1 in
     let octets : now.0.now.octets ≡ telling.0.now.octets = ⊎_elim (λ kept. kept.0) (λ made. absurd (made.0.1 (stands_short of (payloads_of found.0) telling.0.now.octets found.2 made.0.0))) now.2.same in
     undamaged base of at found.0 now.0.now found.1 (subst (λ (l : List ℕ). StandsForCommands of found.0 l) (sym octets) found.2) (unread now.0 now.1)
+
+-- nor is what opens as a lawful list
+pub begin_refuses_lawful : (fault : OpenFault) (told : Option History) → IsBeginFault fault → Now told (IsNotBegun fault) → IsRefusal fault → NoneLawful told
+begin_refuses_lawful NotAStore told kind refused refusal base cmds list =
+    let no = refused list.history list.tells in
+    ⊎_elim (λ stands. (not_refused base 0 (payloads_of cmds) list.history.now.octets stands).0 no) (λ short. absurd (omega (arith, short.0.0, no.0))) list.opens
+begin_refuses_lawful (Version version) told kind refused refusal base cmds list =
+    let no = refused list.history list.tells in
+    ⊎_elim (λ stands. (not_refused base version (payloads_of cmds) list.history.now.octets stands).1 no) (λ short. absurd (omega (arith, short.0.0, no.0))) list.opens
+begin_refuses_lawful (Damaged at) told kind refused refusal base cmds list = absurd kind
+begin_refuses_lawful DiskFault told kind refused refusal base cmds list = absurd refusal
+begin_refuses_lawful NoMemory told kind refused refusal base cmds list = absurd refusal
+
+-- a list of no payloads, in the new file in the place of a short one
+lawful_nil : (of : ℕ) (cmds : List TicketCmd) (octets : List ℕ) → of ≡ 1 → payloads_of cmds ≡ [] → StandsFor 1 [] octets → StandsForCommands of cmds octets
+lawful_nil of cmds octets one none stands = subst (λ (b : ℕ). StandsForCommands b cmds octets) (sym one) (subst (λ (ps : List (List ℕ)). StandsFor 1 ps octets) (sym none) stands)
+
+pub read_refuses_lawful : (told mid : Option History) (fault : OpenFault) (base size : ℕ) → journal.Begins 1 base size told mid → IsUnread base fault mid → IsRefusal fault → NoneLawful told
+read_refuses_lawful told mid NotAStore base size begun unread refusal of cmds list = absurd unread
+read_refuses_lawful told mid (Version version) base size begun unread refusal of cmds list = absurd unread
+read_refuses_lawful told mid DiskFault base size begun unread refusal of cmds list = absurd refusal
+read_refuses_lawful told mid NoMemory base size begun unread refusal of cmds list = absurd refusal
+read_refuses_lawful told mid (Damaged at) base size begun unread refusal of cmds list =
+    let now = begun list.history list.tells in
+    let damaged = unread now.0 now.1 in
+    ⊎_elim
+    (λ (stands : StandsForCommands of cmds list.history.now.octets).
+    let octets : now.0.now.octets ≡ list.history.now.octets = ⊎_elim (λ kept. kept.0) (λ made. absurd (made.0.1 (stands_short of (payloads_of cmds) list.history.now.octets stands made.0.0))) now.2.same in
+    undamaged base of at cmds now.0.now list.lawful (subst (λ (l : List ℕ). StandsForCommands of cmds l) (sym octets) stands) damaged)
+    (λ (short : IsShort list.history.now.octets × (of ≡ 1) × (payloads_of cmds ≡ [])).
+    ⊎_elim (λ kept. absurd (kept.1 short.0)) (λ made. undamaged base of at cmds now.0.now list.lawful (lawful_nil of cmds now.0.now.octets short.1 short.2 (made_stands now.0.now.octets made.1)) damaged) now.2.same)
+    list.opens
 
 -- ---- the first gate
 

@@ -101,3 +101,14 @@ IsRefusal NoMemory = ⊥
 
 abbrev pub NoneInDoubt : {D : Type 0} → Ghosts D → D → Type 0
 NoneInDoubt disks disk = (base : ℕ) (cmds doubt : List TicketCmd) (end : ℕ) → IsInDoubt disks base cmds doubt end disk → ⊥
+
+-- the disk tells what it holds, which opens as this lawful list
+pub record OpensLawfully (base : ℕ) (cmds : List TicketCmd) (told : Option History) : Type 0 where
+  pub history : History
+  pub tells : told ≡ Some history
+  pub lawful : IsLawful base cmds
+  pub opens : Opens base (payloads_of cmds) history.now.octets
+
+-- what it holds opens as no lawful list
+abbrev pub NoneLawful : Option History → Type 0
+NoneLawful told = (base : ℕ) (cmds : List TicketCmd) → OpensLawfully base cmds told → ⊥

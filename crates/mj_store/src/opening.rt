@@ -4,7 +4,7 @@ ghost use Rattle.mj_disk.specs.DiskModel.{Now, Turns, CrashesAs};
 ghost use Rattle.mj_journal.specs.Appending.{EndsAt};
 ghost use Rattle.mj_journal.specs.Opening.{IsReadTo, IsImageOrOpensAlike, KeepsFile};
 ghost use Rattle.mj_store.specs.Standing.{IsHeld, IsTelling};
-ghost use Rattle.mj_store.specs.Opening.{Begins, FindsDoubt, HasAll, HasRead, IsRefusal, IsUnopened, IsUnread, KeepsOrMakes, LeavesBegun, LeavesInDoubt, NoneInDoubt, StaysInDoubt};
+ghost use Rattle.mj_store.specs.Opening.{Begins, FindsDoubt, HasAll, HasRead, IsRefusal, IsUnopened, IsUnread, KeepsOrMakes, LeavesBegun, LeavesInDoubt, NoneInDoubt, NoneLawful, StaysInDoubt};
 
 use super::Store;
 use mj_base::{Limits, Octets};
@@ -28,6 +28,7 @@ impl Store {
 
         ensures unopened { IfErr result (λ fault. IsUnopened fault (D.told disk.old) (D.told disk.new)) }
         ensures refused { IfErr result (λ fault. IsRefusal fault → IsTelling D.Disk disk.old → NoneInDoubt D.Disk disk.old) }
+        ensures lawful { IfErr result (λ fault. IsRefusal fault → NoneLawful (D.told disk.old)) }
         ensures cause { IsErrOf result OpenFault.DiskFault → Rose (D.faults disk.old) (D.faults disk.new) }
         ensures failed { IsErrOf result OpenFault.DiskFault → D.failed disk.new ≡ true }
         ensures still { IsErrOf result OpenFault.DiskFault → StaysInDoubt D.Disk disk.old disk.new }

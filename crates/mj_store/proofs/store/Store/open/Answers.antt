@@ -3,7 +3,7 @@ use Rattle.mj_tickets.specs.Fold.{start}
 use Rattle.mj_store.specs.Standing.{StoreValue}
 use Rattle.mj_store.specs.Opening.{HasAll}
 use Rattle.mj_store.proofs.Beginning.{leaves_begun, leaves_in_doubt, stays_in_doubt, crash_on}
-use Rattle.mj_store.proofs.Found.{begin_unopened, begin_refuses_none, read_refuses_none, first_read, holds_all, begins_held, finds_doubt}
+use Rattle.mj_store.proofs.Found.{begin_unopened, begin_refuses_lawful, begin_refuses_none, read_refuses_lawful, read_refuses_none, first_read, holds_all, begins_held, finds_doubt}
 use Rattle.mj_store.proofs.store.Store.open.Goals as goal
 
 pub returns-in-Err-clause-unopened : goal.returns-in-Err-clause-unopened
@@ -69,3 +69,9 @@ pub returns-in-Err-read_all-clause-crash_again : goal.returns-in-Err-read_all-cl
 returns-in-Err-read_all-clause-crash_again g c =
     leaves_in_doubt g.D.Disk c.args.disk.now c.read_all.new.disk (g.met.D.Disk.reads_image c.args.disk.now) (ap is_some c.read_all.ensures.same ∙ c.begin.ensures.telling) (omega (arith, c.begin.ensures.later, c.read_all.ensures.later))
     (crash_on _ _ _ _ _ c.read_all.ensures.same c.read_all.ensures.later c.begin.ensures.crash)
+
+pub returns-in-Err-clause-lawful : goal.returns-in-Err-clause-lawful
+returns-in-Err-clause-lawful g c = begin_refuses_lawful c.in-Err.fault (g.D.Disk.told c.args.disk.now) c.in-Err.ensures.kind c.in-Err.ensures.refused
+
+pub returns-in-Err-read_all-clause-lawful : goal.returns-in-Err-read_all-clause-lawful
+returns-in-Err-read_all-clause-lawful g c = read_refuses_lawful (g.D.Disk.told c.args.disk.now) _ c.in-Err-read_all.fault c.in-Ok.opening.base c.in-Ok.opening.size c.in-Ok.ensures.begun c.in-Err-read_all.ensures.unread

@@ -1,0 +1,9 @@
+mod Counting
+mod Leaving
+mod Staying
+mod Going
+mod Laws
+mod Alone
+mod Beginning
+mod Ending
+mod Refusing
