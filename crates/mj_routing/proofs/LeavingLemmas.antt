@@ -8,6 +8,7 @@ use Rattle.mj_queue.specs.Settling.{Pair, has_waiter, is_client, is_too_much, pa
 use Rattle.mj_queue.proofs.LawLemmas.{some-pair}
 use Rattle.std.specs.List.{filter, list_any}
 use Rattle.mj_queue.specs.declared.request.Request.{Request}
+use Rattle.mj_queue.specs.declared.worker.Waiter.{Waiter}
 use Rattle.mj_machine.specs.declared.connection.Connection.{Connection}
 use Rattle.mj_machine.specs.declared.held.Held.{Held}
 use Rattle.mj_machine.specs.StoreState.{Told}
@@ -16,7 +17,8 @@ use Rattle.mj_machine.specs.Acts.{quiet}
 use Rattle.mj_machine.specs.Leaving.{ends, given_back, held_by, left}
 use Rattle.mj_machine.specs.MessageStep.{enqueues, queues}
 use Rattle.mj_routing.specs.RoutingState.{Does, seen}
-use Rattle.mj_routing.specs.Returning.{BringsNothing, put_last}
+use Rattle.mj_routing.specs.Returning.{BringsNothing, coming_back, put_last}
+use Rattle.mj_routing.proofs.KeptLemmas.{LeftHall}
 use Rattle.mj_routing.proofs.ReturningLemmas.{given-last}
 
 no-pair : (found : Option Pair) → is_some found ≡ false → found ≡ None
@@ -68,3 +70,16 @@ left-none told n s nothing none =
     subst (λ (q : List Request). pair waiting q ≡ None) (sym back)
     (no-pair (pair waiting queue)
     (sym (some-pair waiting queue) ∙ any-weaker (has_waiter s.waiting) (has_waiter waiting) (λ r e. any-filter (serves r.service) (λ w. not (w.worker == n)) s.waiting e) queue fewer))
+
+-- the same of the hall
+pub settled-left : (limits : Limits) (moment next : ℕ) (cs : List Connection) (hall worker new : HallState) (held : List Held) (s : State) (told : Told) (n : ℕ) (back : Option Request)
+    → seen limits moment next cs hall held ≡ s → LeftHall n hall worker new → back ≡ coming_back told (held_by n held)
+    → BringsNothing told n s → pair s.waiting s.queue ≡ None → pair new.waiting (put_last back new.requests) ≡ None
+settled-left limits moment next cs hall worker new held s told n back is left back_is nothing none =
+    let old = seen limits moment next cs hall held in
+    let waiting_is : new.waiting ≡ without_worker n hall.waiting = ap (λ (h : HallState). h.waiting) left.1 ∙ ap (λ (h : HallState). h.waiting) left.0 in
+    let requests_is : new.requests ≡ without_client n hall.requests = ap (λ (h : HallState). h.requests) left.1 ∙ ap (λ (h : HallState). without_client n h.requests) left.0 in
+    let queue_is : put_last back new.requests ≡ given_back told (held_by n held) (without_client n hall.requests) =
+    ap (put_last back) requests_is ∙ ap (λ (o : Option Request). put_last o (without_client n hall.requests)) back_is ∙ sym (given-last told (held_by n held) (without_client n hall.requests)) in
+    ap (λ (ws : List Waiter). pair ws (put_last back new.requests)) waiting_is ∙ ap (pair (without_worker n hall.waiting)) queue_is
+    ∙ left-none told n old (subst (λ (t : State). BringsNothing told n t) (sym is) nothing) (ap (λ (t : State). pair t.waiting t.queue) is ∙ none)

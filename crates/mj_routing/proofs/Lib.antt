@@ -3,5 +3,6 @@ pub mod KeyedLemmas
 pub mod PlaceLemmas
 pub mod DeadlineLemmas
 pub mod KeptLemmas
+pub mod WaitingLemmas
 pub mod LeavingLemmas
 pub mod DueLemmas

@@ -54,7 +54,9 @@ pub fn release(held: &mut Vec<Held>, worker: u64, tickets: &Keeper) -> Option<Re
     ensures back { result ≡ Returning.coming_back (told_on tickets.now.shelf) (Leaving.held_by worker held.old.items) }
     ensures held { held.new.items ≡ held_without worker held.old.items }
 {
-    let at = first_place(held, worker)?;
+    let Some(at) = first_place(held, worker) else {
+        return None;
+    };
     let released = held.remove(at);
     drop_held(held, worker);
     coming_back(released.request, tickets)
