@@ -6,3 +6,4 @@ pub mod KeptLemmas
 pub mod WaitingLemmas
 pub mod LeavingLemmas
 pub mod DueLemmas
+pub mod PlainLemmas

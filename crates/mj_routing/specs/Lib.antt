@@ -3,4 +3,5 @@ pub mod Places
 pub mod Deadlines
 pub mod Returning
 pub mod RoutingState
+pub mod Staying
 pub mod Rows
