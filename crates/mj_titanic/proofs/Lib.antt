@@ -3,3 +3,5 @@ pub mod Attempts
 pub mod Appends
 pub mod Alike
 pub mod Bodies
+pub mod Accepts
+pub mod Openings
