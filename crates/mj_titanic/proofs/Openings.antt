@@ -185,7 +185,7 @@ module _ {D : Type 0} (disks : Ghosts D) (old : Parts) (end : ℕ) (disk after :
 
       opened-ends : (w : Whole) → IsAt disks old disk w → Agree old.acts new.acts w.notes (notes.Again old.acts (has_moved end next) ∷ []) → (access : Access) → w.store.access ≡ access
           → Ends disks new after (out.Note (notes.Again old.acts (has_moved end next)) ∷ []) w (opening_by access quiet quiet w)
-      opened-ends w at agree Open open = absurd (subst IsShut open (here w at).shut)
+      opened-ends w at agree Open usable = absurd (subst IsShut usable (here w at).shut)
       opened-ends w at agree (Shut doubt) shut =
           let o = here w at in
           let in_doubt = subst (λ (a : Access). IsInDoubt disks w.store.base w.store.commands (doubted a) end disk) shut o.doubt in
@@ -219,7 +219,7 @@ module _ {D : Type 0} (disks : Ghosts D) (old : Parts) (end : ℕ) (disk after :
     module _ (core : new.core ≡ clients_alone old.core) (now : new.keeper ≡ record old.keeper { shelf = shelves.Shut end }) (stays : StaysInDoubt disks disk after) where
       failed-ends : (w : Whole) → IsAt disks old disk w → Agree old.acts new.acts w.notes (notes.Shut old.acts ∷ []) → (access : Access) → w.store.access ≡ access
           → Ends disks new after (out.Note (notes.Shut old.acts) ∷ []) w (opening_by access quiet quiet w)
-      failed-ends w at agree Open open = absurd (subst IsShut open (here w at).shut)
+      failed-ends w at agree Open usable = absurd (subst IsShut usable (here w at).shut)
       failed-ends w at agree (Shut doubt) shut =
           let o = here w at in
           let in_doubt = subst (λ (a : Access). IsInDoubt disks w.store.base w.store.commands (doubted a) end disk) shut o.doubt in

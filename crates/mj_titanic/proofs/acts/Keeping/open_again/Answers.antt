@@ -35,7 +35,7 @@ returns-in-Err-clause-stopped g c = λ core.
 
 pub returns-in-Err-NotAStore-clause-stopped : goal.returns-in-Err-NotAStore-clause-stopped
 returns-in-Err-NotAStore-clause-stopped g c = λ core.
-    let none = refused-silent g.D.Disk c.args.self.now.keeper c.in-Shut.end c.args.disk.now c.in-Shut.is c.requires.sound _ tt c.in-Err-NotAStore.ensures.refused in
+    let none = refused-silent g.D.Disk c.args.self.now.keeper c.in-Shut.end c.args.disk.now c.in-Shut.is c.requires.sound _ (subst IsRefusal (sym c.in-Err-NotAStore.field-0-is) tt) c.in-Err-NotAStore.ensures.refused in
     opening-stopped g.D.Disk (parts core c.args.self.now) c.in-Shut.end c.args.disk.now c.open.new.disk c.in-Shut.is c.open.ensures.crash_again c.open.ensures.count (Refused _) tt (λ refused. none)
 
 pub returns-in-Err-Version-clause-stopped : goal.returns-in-Err-Version-clause-stopped
