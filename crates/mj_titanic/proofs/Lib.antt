@@ -5,3 +5,6 @@ pub mod Alike
 pub mod Bodies
 pub mod Accepts
 pub mod Openings
+pub mod Telling
+pub mod Continuing
+pub mod Rowing
