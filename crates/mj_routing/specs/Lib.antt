@@ -1,6 +1,6 @@
 pub mod Keyed
 pub mod Places
 pub mod Deadlines
-pub mod Storeless
+pub mod Returning
 pub mod RoutingState
 pub mod Rows
