@@ -3,3 +3,8 @@ pub mod Attempts
 pub mod Appends
 pub mod Alike
 pub mod Bodies
+pub mod Accepts
+pub mod Openings
+pub mod Telling
+pub mod Continuing
+pub mod Rowing
