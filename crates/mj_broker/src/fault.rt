@@ -1,4 +1,5 @@
 use mj_base::NoMemory;
+use mj_journal::OpenFault;
 use thiserror::Error;
 
 /// Why an event wasn't handled. The broker is spent from then on.
@@ -10,6 +11,9 @@ pub enum EventFault {
     /// Memory ran out.
     #[error("out of memory")]
     NoMemory,
+    /// The file can't be opened again, or a body in it is damaged: somebody else wrote it.
+    #[error("the file of tickets is refused")]
+    Refused(OpenFault),
 }
 
 impl From<NoMemory> for EventFault {
