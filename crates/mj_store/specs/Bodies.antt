@@ -5,6 +5,7 @@ use Rattle.mj_disk.specs.declared.disk.Disk.{Ghosts}
 use Rattle.mj_tickets.specs.declared.command.TicketCmd.{TicketCmd}
 use Rattle.mj_tickets.specs.declared.place.Place.{Place}
 use Rattle.mj_tickets.specs.Fold.{Fold, ticket_of}
+use Rattle.mj_tickets.specs.Payload.{FitsBody, body_text}
 use Rattle.mj_tickets.specs.PayloadReading.{body_in}
 use Rattle.mj_store.specs.declared.fault.BodyFault.{BodyFault}
 use Rattle.mj_store.specs.declared.fault.BodyFault.TheVariants.{Spent, NoMemory, DiskFault, Damaged}
@@ -27,6 +28,11 @@ pub record IsReadAt (place : Place) (told : Option History) (octets : List ℕ) 
 abbrev pub IsReadBody : Option Place → Option History → List (List ℕ) → Type 0
 IsReadBody None told frames = ⊥
 IsReadBody (Some place) told frames = (octets : List ℕ) × IsReadAt place told octets × (body_in octets ≡ Some frames)
+
+-- the place has as many bytes as the text of the body, which is none too long for its counts
+abbrev pub HasText : Option Place → List (List ℕ) → Type 0
+HasText None frames = ⊥
+HasText (Some place) frames = FitsBody frames × (length (body_text frames) ≡ place.len)
 
 -- what was read at the place, which begins here, is no body
 abbrev pub IsNoBody : Option Place → Option History → ℕ → Type 0

@@ -2,7 +2,7 @@ ghost use Rattle.std.specs.Prelude.{◌≡◌, ◌≢◌, true, false, Some, Non
 ghost use Rattle.mj_base.specs.Rising.{Rose};
 ghost use Rattle.mj_tickets.specs.Fold.{ticket_of};
 ghost use Rattle.mj_store.specs.Standing.{Doubts, IsHeld, IsTelling, Keeps, LeavesWithOrWithout};
-ghost use Rattle.mj_store.specs.Bodies.{body_at, reply_at, GivesBody, GivesReply, IsDamage, IsHarmless, IsReadBody, IsUnreadable};
+ghost use Rattle.mj_store.specs.Bodies.{body_at, reply_at, GivesBody, GivesReply, HasText, IsDamage, IsHarmless, IsReadBody, IsUnreadable};
 
 use super::{BodyFault, Store};
 use mj_base::{Frames, NoMemory};
@@ -23,6 +23,7 @@ impl Store {
 
         ensures body { IfOk result (GivesBody D.Disk number self.old disk.old) }
         ensures read { IfOk result (IsReadBody (body_at number self.old.index) (D.told disk.old)) }
+        ensures text { IfOk result (HasText (body_at number self.old.index)) }
         ensures kept { OnOk result (Keeps D.Disk self.old disk.old self.new disk.new) }
         ensures held { OnOk result (IsHeld D.Disk self.new disk.new) }
         ensures same { OnOk result (self.new ≡ self.old) }
@@ -62,6 +63,7 @@ impl Store {
 
         ensures body { IfOk result (GivesReply D.Disk number self.old disk.old) }
         ensures read { IfOk result (IsReadBody (reply_at number self.old.index) (D.told disk.old)) }
+        ensures text { IfOk result (HasText (reply_at number self.old.index)) }
         ensures kept { OnOk result (Keeps D.Disk self.old disk.old self.new disk.new) }
         ensures held { OnOk result (IsHeld D.Disk self.new disk.new) }
         ensures same { OnOk result (self.new ≡ self.old) }
@@ -101,6 +103,7 @@ impl Store {
         requires held { self.old.spent ≡ false → IsHeld D.Disk self.old disk.old }
 
         ensures read { IfOk result (IsReadBody (Some place) (D.told disk.old)) }
+        ensures text { IfOk result (HasText (Some place)) }
         ensures kept { OnOk result (Keeps D.Disk self.old disk.old self.new disk.new) }
         ensures held { OnOk result (IsHeld D.Disk self.new disk.new) }
         ensures same { OnOk result (self.new ≡ self.old) }

@@ -66,7 +66,7 @@ shrink limits group body s =
     let o = sum_by-append length group (body ∷ []) in
     (omega (arith, s.0), omega (arith, s.1))
 
-grow : (limits : Limits) (group : List (List ℕ)) (body : List ℕ) → length group < limits.frames → sum_by length group + length body ≤ limits.message
+pub grow : (limits : Limits) (group : List (List ℕ)) (body : List ℕ) → length group < limits.frames → sum_by length group + length body ≤ limits.message
     → IsSmallMessage limits (group ++ body ∷ [])
 grow limits group body a b =
     let l = length-append group (body ∷ []) in

@@ -6,3 +6,4 @@ pub mod CutLemmas
 pub mod LongestLemmas
 pub mod FaultLemmas
 pub mod PieceLemmas
+pub mod SmallLemmas

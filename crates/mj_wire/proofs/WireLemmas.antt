@@ -35,7 +35,7 @@ gained_is limits p stream rest piece goes =
     ap (λ (x : List WireItem). drop (length (stream_items limits stream)) x) (due limits p stream rest piece goes)
     ∙ drop-append_seam (stream_items limits stream) (items_from limits p (rest ++ piece))
 
-read_out : (limits : Limits) (p q : Place) (octets rest : List ℕ) (before now : List WireItem) → (read : IsReadTo limits p octets before q rest now) → items_from limits q rest ≡ []
+pub read_out : (limits : Limits) (p q : Place) (octets rest : List ℕ) (before now : List WireItem) → (read : IsReadTo limits p octets before q rest now) → items_from limits q rest ≡ []
     → items_from limits p octets ≡ read.added
 read_out limits p q octets rest before now read out =
     ap (λ (o : List ℕ). items_from limits p o) (sym (append-nil octets)) ∙ read.goes [] ∙ ap (λ (o : List ℕ). read.added ++ items_from limits q o) (append-nil rest)

@@ -4,3 +4,4 @@ pub mod WireState
 pub mod StreamCuts
 pub mod StreamFault
 pub mod Laws
+pub mod SmallItems

@@ -35,6 +35,7 @@ impl Model for Wire {
 }
 
 impl Wire {
+    ghost use Rattle.mj_wire.specs.SmallItems.{AddsSmall};
     ghost use Rattle.mj_wire.specs.StreamItems.{count, gained};
     ghost use Rattle.mj_wire.specs.WireState.{StandsFor, AppendsFront};
 
@@ -42,6 +43,7 @@ impl Wire {
     pub fn new(alloc: Global, limits: &Limits) -> Result<Wire, NoMemory>
         ensures stands { IfOk result (λ w. StandsFor limits.now w []) }
         ensures ready { IfOk result (λ w. w.spent ≡ false) }
+        ensures limits { IfOk result (λ w. w.limits ≡ limits.now) }
     {
         Ok(Wire {
             limits: *limits,
@@ -74,6 +76,10 @@ impl Wire {
         ensures ready { OnOk result (self.new.spent ≡ false) }
         ensures spent { OnErr result (self.new.spent ≡ true) }
         ensures counts { OnOk result (self.new.taken ≡ count (self.old.taken + length piece.now)) }
+
+        // Each message that was appended is within the limits, whatever the wire was fed.
+        ensures small { OnOk result (AddsSmall self.old.limits items.old.items items.new.items) }
+        ensures limits { self.new.limits ≡ self.old.limits }
     {
         self.spent = true;
         take_piece(
