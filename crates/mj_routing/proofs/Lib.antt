@@ -7,3 +7,4 @@ pub mod WaitingLemmas
 pub mod LeavingLemmas
 pub mod DueLemmas
 pub mod PlainLemmas
+pub mod FewerLemmas

@@ -8,3 +8,4 @@ pub mod Openings
 pub mod Telling
 pub mod Continuing
 pub mod Rowing
+pub mod Routed

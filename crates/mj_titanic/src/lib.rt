@@ -4,9 +4,11 @@
 mod accepting;
 mod acts;
 mod fault;
+mod parts;
 mod reopening;
 
 pub use accepting::Accepted;
 pub use acts::Keeping;
 pub use fault::ActFault;
+pub use parts::Parts;
 
