@@ -1,278 +1,236 @@
-//! What one message does, row by row (ZeroMQ RFC 7; RFC 8 for names that begin with `mmi.`).
-ghost use Rattle.std.specs.Prelude.{◌≡◌, ℕ, List, true, IsSome, OnOk, IfOk};
+//! What one message does, row by row (ZeroMQ RFC 7; RFC 8 for names that begin with `mmi.`, RFC 9 for those that begin
+//! with `titanic.`).
+ghost use Rattle.std.specs.Prelude.{◌≡◌, ℕ, List, true, IsSome, OnOk, IfOk, IfErr};
 ghost use Rattle.mj_base.specs.declared.event.Out.{Out as AnOut};
-ghost use Rattle.mj_mmi.specs.Asking;
 ghost use Rattle.mj_queue.specs.Settling.{is_of_client};
 ghost use Rattle.mj_machine.specs.Acts.{quiet};
-ghost use Rattle.mj_machine.specs.Leaving.{goes, held_by};
+ghost use Rattle.mj_machine.specs.DiskActs.{routes};
+ghost use Rattle.mj_machine.specs.Leaving.{held_by};
 ghost use Rattle.mj_machine.specs.MessageStep;
-ghost use Rattle.mj_machine.specs.MessageStep.{answers_itself, asks, begins, delivers, message_step, registers, replied, request_of, rests, says, says_by, strays, works, works_on};
+ghost use Rattle.mj_machine.specs.MessageStep.{answers_itself, asks, begins, delivers, delivers_back, departs, queues, replied, request_of, rests, says, says_by, strays, unexpected, works, works_on};
+ghost use Rattle.mj_machine.specs.TitanicStep.{serves, titanic_of};
 ghost use Rattle.mj_machine.specs.Connections.{connection_of, worker_voice};
 ghost use Rattle.mj_machine.specs.declared.connection.Role;
-ghost use Rattle.mj_routing.specs.RoutingState.{Does};
-ghost use Rattle.mj_routing.specs.Rows.{ends_it};
-ghost use Rattle.mj_routing.specs.Storeless.{alone, untold};
+ghost use Rattle.mj_keeper.specs.Standing.{IsSound, told_on};
+ghost use Rattle.mj_titanic.specs.Acting.{Stopped, around, seen};
+ghost use Rattle.mj_broker.specs.Acting.{Acted, hears, serves_client};
+ghost use Rattle.mj_broker.specs.Bodies.{IsShort, IsShortSaid};
 
+use crate::rows;
 use mj_base::{Frames, Name, NoMemory, Octets, Out, Version};
 use mj_client_cmd::ClientCmd;
+use mj_disk::Disk;
 use mj_machine::{Registration, Role, Said, Voice};
-use mj_mmi::asked;
 use mj_queue::{Origin, Request};
-use mj_routing::{Routing, Standing, is_address, order_octets, read_message, reply_octets};
-use mj_worker_cmd::{OrderAct, WorkerAct, WorkerCmd};
+use mj_routing::{Standing, is_address};
+use mj_titanic::{ActFault, Parts};
+use mj_worker_cmd::{WorkerAct, WorkerCmd};
 use std::alloc::Global;
 
-/// Does what this message of this connection says, and settles.
-pub fn message(
+/// Does what was said on this connection.
+pub fn say<D: Disk>(
     alloc: Global,
-    routing: &mut Routing,
-    number: u64,
-    message: &Frames,
-    outs: &mut Vec<Out>,
-) -> Result<(), NoMemory>
-    ensures { OnOk result (Does (alone routing.new) outs.old.items outs.new.items (message_step number message.now (alone routing.old))) }
-{
-    let said = read_message(alloc, message)?;
-    say(alloc, routing, number, said, outs)?;
-    routing.settle(alloc, outs)
-}
-
-fn say(
-    alloc: Global,
-    routing: &mut Routing,
+    parts: &mut Parts,
+    disk: &mut D,
     number: u64,
     said: Said,
     outs: &mut Vec<Out>,
-) -> Result<(), NoMemory>
-    ensures { OnOk result (Does (alone routing.new) outs.old.items outs.new.items (says_by number (connection_of number routing.old.connections) said (alone routing.old))) }
+) -> Result<(), ActFault>
+    requires short { (told_on parts.old.keeping.keeper.shelf).stored ≡ true → IsShortSaid said }
+    requires sound { IsSound D.Disk parts.old.keeping.keeper disk.old }
+    ensures acted { OnOk result (Acted D.Disk parts.old disk.old parts.new disk.new outs.old.items outs.new.items (says_by number (connection_of number parts.old.routing.connections) said) (around (says_by number (connection_of number parts.old.routing.connections) said))) }
+    ensures stopped { IfErr result (λ fault. Stopped D.Disk fault (seen parts.old) disk.old disk.new (around (says_by number (connection_of number parts.old.routing.connections) said))) }
+    ensures keeper { parts.new.keeping.keeper ≡ record parts.old.keeping.keeper { shelf = parts.new.keeping.keeper.shelf } }
 {
-    match routing.look_up(number) {
+    match parts.routing.look_up(number) {
         None => Ok(()),
-        Some(standing) => say_as(alloc, routing, standing, number, said, outs),
+        Some(standing) => say_as(alloc, parts, disk, standing, number, said, outs),
     }
 }
 
-fn say_as(
+/// By the role of the connection.
+fn say_as<D: Disk>(
     alloc: Global,
-    routing: &mut Routing,
+    parts: &mut Parts,
+    disk: &mut D,
     standing: Standing,
     number: u64,
     said: Said,
     outs: &mut Vec<Out>,
-) -> Result<(), NoMemory>
-    ensures { OnOk result (Does (alone routing.new) outs.old.items outs.new.items (says standing.lane number standing.role said (alone routing.old))) }
+) -> Result<(), ActFault>
+    requires short { (told_on parts.old.keeping.keeper.shelf).stored ≡ true → IsShortSaid said }
+    requires sound { IsSound D.Disk parts.old.keeping.keeper disk.old }
+    ensures acted { OnOk result (Acted D.Disk parts.old disk.old parts.new disk.new outs.old.items outs.new.items (says standing.lane number standing.role said) (around (says standing.lane number standing.role said))) }
+    ensures stopped { IfErr result (λ fault. Stopped D.Disk fault (seen parts.old) disk.old disk.new (around (says standing.lane number standing.role said))) }
+    ensures keeper { parts.new.keeping.keeper ≡ record parts.old.keeping.keeper { shelf = parts.new.keeping.keeper.shelf } }
 {
     let lane = standing.lane;
     let role = standing.role;
     match role {
         Role::Gone => Ok(()),
-        Role::Fresh => say_fresh(alloc, routing, lane, number, said, outs),
-        Role::Client => say_client(alloc, routing, lane, number, said, outs),
-        Role::Worker(registration) => say_worker(alloc, routing, number, registration, said, outs),
+        Role::Fresh => say_fresh(alloc, parts, disk, lane, number, said, outs),
+        Role::Client => say_client(alloc, parts, disk, lane, number, said, outs),
+        Role::Worker(registration) => {
+            say_worker(alloc, parts, disk, lane, number, registration, said, outs)
+        }
     }
 }
 
-fn say_fresh(
+/// Of one that has said nothing yet.
+fn say_fresh<D: Disk>(
     alloc: Global,
-    routing: &mut Routing,
+    parts: &mut Parts,
+    disk: &mut D,
     lane: u32,
     number: u64,
     said: Said,
     outs: &mut Vec<Out>,
-) -> Result<(), NoMemory>
-    ensures { OnOk result (Does (alone routing.new) outs.old.items outs.new.items (says lane number Role.Fresh said (alone routing.old))) }
+) -> Result<(), ActFault>
+    requires short { (told_on parts.old.keeping.keeper.shelf).stored ≡ true → IsShortSaid said }
+    requires sound { IsSound D.Disk parts.old.keeping.keeper disk.old }
+    ensures acted { OnOk result (Acted D.Disk parts.old disk.old parts.new disk.new outs.old.items outs.new.items (says lane number Role.Fresh said) (around (says lane number Role.Fresh said))) }
+    ensures stopped { IfErr result (λ fault. Stopped D.Disk fault (seen parts.old) disk.old disk.new (around (says lane number Role.Fresh said))) }
+    ensures keeper { parts.new.keeping.keeper ≡ record parts.old.keeping.keeper { shelf = parts.new.keeping.keeper.shelf } }
 {
     match said {
-        Said::Neither => {
-            routing.go(number);
-            Ok(())
-        }
-        Said::Asks(cmd) => ask(alloc, routing, lane, number, request_by(number, cmd), outs),
-        Said::Serves(cmd) => begin(alloc, routing, number, voice_in(&cmd), cmd.act, outs),
+        Said::Neither => depart(parts, disk, number),
+        Said::Asks(cmd) => ask(alloc, parts, disk, lane, number, request_by(number, cmd), outs),
+        Said::Serves(cmd) => begin(
+            alloc,
+            parts,
+            disk,
+            number,
+            voice_in(&cmd),
+            cmd.act,
+            outs,
+        ),
     }
 }
 
-fn say_client(
+/// Of a client.
+fn say_client<D: Disk>(
     alloc: Global,
-    routing: &mut Routing,
+    parts: &mut Parts,
+    disk: &mut D,
     lane: u32,
     number: u64,
     said: Said,
     outs: &mut Vec<Out>,
-) -> Result<(), NoMemory>
-    ensures { OnOk result (Does (alone routing.new) outs.old.items outs.new.items (says lane number Role.Client said (alone routing.old))) }
+) -> Result<(), ActFault>
+    requires short { (told_on parts.old.keeping.keeper.shelf).stored ≡ true → IsShortSaid said }
+    requires sound { IsSound D.Disk parts.old.keeping.keeper disk.old }
+    ensures acted { OnOk result (Acted D.Disk parts.old disk.old parts.new disk.new outs.old.items outs.new.items (says lane number Role.Client said) (around (says lane number Role.Client said))) }
+    ensures stopped { IfErr result (λ fault. Stopped D.Disk fault (seen parts.old) disk.old disk.new (around (says lane number Role.Client said))) }
+    ensures keeper { parts.new.keeping.keeper ≡ record parts.old.keeping.keeper { shelf = parts.new.keeping.keeper.shelf } }
 {
     match said {
-        Said::Neither => {
-            routing.go(number);
-            Ok(())
-        }
-        Said::Asks(cmd) => ask(alloc, routing, lane, number, request_by(number, cmd), outs),
-        Said::Serves(cmd) => stray(alloc, routing, number, voice_in(&cmd), &cmd.act, outs),
+        Said::Neither => depart(parts, disk, number),
+        Said::Asks(cmd) => ask(alloc, parts, disk, lane, number, request_by(number, cmd), outs),
+        Said::Serves(cmd) => stray(
+            alloc,
+            parts,
+            disk,
+            number,
+            voice_in(&cmd),
+            &cmd.act,
+            outs,
+        ),
     }
 }
 
-fn say_worker(
+/// Of a worker.
+fn say_worker<D: Disk>(
     alloc: Global,
-    routing: &mut Routing,
+    parts: &mut Parts,
+    disk: &mut D,
+    _lane: u32,
     number: u64,
     registration: Registration,
     said: Said,
     outs: &mut Vec<Out>,
-) -> Result<(), NoMemory>
-    ensures { OnOk result ((lane : ℕ) → Does (alone routing.new) outs.old.items outs.new.items (says lane number (Role.Worker registration) said (alone routing.old))) }
+) -> Result<(), ActFault>
+    requires short { (told_on parts.old.keeping.keeper.shelf).stored ≡ true → IsShortSaid said }
+    requires sound { IsSound D.Disk parts.old.keeping.keeper disk.old }
+    ensures acted { OnOk result (Acted D.Disk parts.old disk.old parts.new disk.new outs.old.items outs.new.items (says _lane number (Role.Worker registration) said) (around (says _lane number (Role.Worker registration) said))) }
+    ensures stopped { IfErr result (λ fault. Stopped D.Disk fault (seen parts.old) disk.old disk.new (around (says _lane number (Role.Worker registration) said))) }
+    ensures keeper { parts.new.keeping.keeper ≡ record parts.old.keeping.keeper { shelf = parts.new.keeping.keeper.shelf } }
 {
     match said {
-        Said::Neither => {
-            routing.go(number);
-            Ok(())
-        }
-        Said::Asks(_cmd) => refuse(alloc, routing, number, voice_at(&registration), outs),
-        Said::Serves(cmd) => work(alloc, routing, number, registration, cmd, outs),
+        Said::Neither => depart(parts, disk, number),
+        Said::Asks(_cmd) => refuse(alloc, parts, disk, number, voice_at(&registration), outs),
+        Said::Serves(cmd) => work(alloc, parts, disk, number, registration, cmd, outs),
     }
 }
 
-/// A command that the sender's role doesn't allow: the connection is passed over from now on, and is told so.
-fn refuse(
-    alloc: Global,
-    routing: &mut Routing,
-    number: u64,
-    voice: Voice,
-    outs: &mut Vec<Out>,
-) -> Result<(), NoMemory>
-    ensures { OnOk result (Does routing.new outs.old.items outs.new.items (MessageStep.unexpected number voice untold routing.old)) }
-{
-    routing.go(number);
-    let piece = order_octets(alloc, voice, OrderAct::Disconnect)?;
-    routing.send(number, piece, outs)
-}
-
 /// A client's request.
-fn ask(
+fn ask<D: Disk>(
     alloc: Global,
-    routing: &mut Routing,
+    parts: &mut Parts,
+    disk: &mut D,
     lane: u32,
     number: u64,
     request: Request,
     outs: &mut Vec<Out>,
-) -> Result<(), NoMemory>
-    requires { is_of_client request.origin ≡ true }
-    ensures { OnOk result (Does (alone routing.new) outs.old.items outs.new.items (asks lane number request (alone routing.old))) }
+) -> Result<(), ActFault>
+    requires client { is_of_client request.origin ≡ true }
+    requires short { (told_on parts.old.keeping.keeper.shelf).stored ≡ true → IsShort request.body }
+    requires sound { IsSound D.Disk parts.old.keeping.keeper disk.old }
+    ensures acted { OnOk result (Acted D.Disk parts.old disk.old parts.new disk.new outs.old.items outs.new.items (asks lane number request) (around (asks lane number request))) }
+    ensures stopped { IfErr result (λ fault. Stopped D.Disk fault (seen parts.old) disk.old disk.new (around (asks lane number request))) }
+    ensures keeper { parts.new.keeping.keeper ≡ record parts.old.keeping.keeper { shelf = parts.new.keeping.keeper.shelf } }
 {
     if request.service.reserved(false) {
-        answer(alloc, routing, number, &request, outs)
+        answer(alloc, parts, disk, number, &request, outs)
+    } else if request.service.reserved(parts.keeping.keeper.is_stored()) {
+        serve(alloc, parts, disk, number, &request, outs)
     } else {
-        routing.queue(lane, number, request, outs)
+        queue(parts, disk, lane, number, request, outs)
     }
 }
 
-/// Answers a request under a name of the broker's own.
-fn answer(
+/// A request under a name of Titanic's.
+fn serve<D: Disk>(
     alloc: Global,
-    routing: &mut Routing,
+    parts: &mut Parts,
+    disk: &mut D,
     number: u64,
     request: &Request,
     outs: &mut Vec<Out>,
-) -> Result<(), NoMemory>
-    ensures { OnOk result (Does routing.new outs.old.items outs.new.items (answers_itself number request.now untold routing.old)) }
+) -> Result<(), ActFault>
+    requires short { (told_on parts.old.keeping.keeper.shelf).stored ≡ true → IsShort request.now.body }
+    requires stored { (told_on parts.old.keeping.keeper.shelf).stored ≡ true }
+    requires sound { IsSound D.Disk parts.old.keeping.keeper disk.old }
+    ensures acted { OnOk result (Acted D.Disk parts.old disk.old parts.new disk.new outs.old.items outs.new.items (serves_client number request.now) (around (serves_client number request.now))) }
+    ensures stopped { IfErr result (λ fault. Stopped D.Disk fault (seen parts.old) disk.old disk.new (around (serves_client number request.now))) }
+    ensures keeper { parts.new.keeping.keeper ≡ record parts.old.keeping.keeper { shelf = parts.new.keeping.keeper.shelf } }
 {
-    let known = knows(routing, &request.body);
-    routing.set_client(number);
-    let body = mj_mmi::answer(alloc, &request.service, known)?;
-    let piece = reply_octets(alloc, true, request, body)?;
-    routing.send(number, piece, outs)
-}
-
-/// Whether the name that is asked for is of a service that somebody serves.
-fn knows(routing: &Routing, body: &Frames) -> bool
-    ensures { result ≡ MessageStep.is_known untold (Asking.asked body.now) routing.now }
-{
-    match asked(body) {
-        Some(name) => routing.is_known(&name),
-        None => false,
-    }
-}
-
-/// A worker's command of one that is no worker yet.
-fn begin(
-    alloc: Global,
-    routing: &mut Routing,
-    number: u64,
-    voice: Voice,
-    act: WorkerAct,
-    outs: &mut Vec<Out>,
-) -> Result<(), NoMemory>
-    ensures { OnOk result (Does routing.new outs.old.items outs.new.items (begins number voice act untold routing.old)) }
-{
-    match act {
-        WorkerAct::Ready(service) => enlist(alloc, routing, number, voice, &service, outs),
-        WorkerAct::Disconnect => {
-            routing.go(number);
-            Ok(())
-        }
-        WorkerAct::Heartbeat => refuse(alloc, routing, number, voice, outs),
-        WorkerAct::Reply {
-            last: _last,
-            address: _address,
-            body: _body,
-        } => refuse(alloc, routing, number, voice, outs),
-    }
-}
-
-/// READY.
-fn enlist(
-    alloc: Global,
-    routing: &mut Routing,
-    number: u64,
-    voice: Voice,
-    service: &Name,
-    outs: &mut Vec<Out>,
-) -> Result<(), NoMemory>
-    ensures { OnOk result (Does routing.new outs.old.items outs.new.items (registers number voice service.now untold routing.old)) }
-{
-    if service.reserved(false) {
-        refuse(alloc, routing, number, voice, outs)
-    } else {
-        routing.register(number, voice, service)
-    }
-}
-
-/// A worker's command of a client.
-fn stray(
-    alloc: Global,
-    routing: &mut Routing,
-    number: u64,
-    voice: Voice,
-    act: &WorkerAct,
-    outs: &mut Vec<Out>,
-) -> Result<(), NoMemory>
-    ensures { OnOk result (Does routing.new outs.old.items outs.new.items (strays number voice act.now untold routing.old)) }
-{
-    if is_disconnect(act) {
-        routing.go(number);
-        Ok(())
-    } else {
-        refuse(alloc, routing, number, voice, outs)
-    }
+    parts.routing.set_client(number);
+    parts.serve(alloc, disk, number, request, outs)
 }
 
 /// A worker's command.
-fn work(
+fn work<D: Disk>(
     alloc: Global,
-    routing: &mut Routing,
+    parts: &mut Parts,
+    disk: &mut D,
     number: u64,
     registration: Registration,
     cmd: WorkerCmd,
     outs: &mut Vec<Out>,
-) -> Result<(), NoMemory>
-    ensures { OnOk result (Does (alone routing.new) outs.old.items outs.new.items (works number registration cmd (alone routing.old))) }
+) -> Result<(), ActFault>
+    requires short { (told_on parts.old.keeping.keeper.shelf).stored ≡ true → IsShortAct cmd.act }
+    requires sound { IsSound D.Disk parts.old.keeping.keeper disk.old }
+    ensures acted { OnOk result (Acted D.Disk parts.old disk.old parts.new disk.new outs.old.items outs.new.items (works number registration cmd) (around (works number registration cmd))) }
+    ensures stopped { IfErr result (λ fault. Stopped D.Disk fault (seen parts.old) disk.old disk.new (around (works number registration cmd))) }
+    ensures keeper { parts.new.keeping.keeper ≡ record parts.old.keeping.keeper { shelf = parts.new.keeping.keeper.shelf } }
 {
     if is_same_version(cmd.version, registration.version) {
-        work_on(alloc, routing, number, registration, cmd.act, outs)
+        work_on(alloc, parts, disk, number, registration, cmd.act, outs)
     } else {
         stray(
             alloc,
-            routing,
+            parts,
+            disk,
             number,
             voice_at(&registration),
             &cmd.act,
@@ -282,24 +240,26 @@ fn work(
 }
 
 /// In the worker's version.
-fn work_on(
+fn work_on<D: Disk>(
     alloc: Global,
-    routing: &mut Routing,
+    parts: &mut Parts,
+    disk: &mut D,
     number: u64,
     registration: Registration,
     act: WorkerAct,
     outs: &mut Vec<Out>,
-) -> Result<(), NoMemory>
-    ensures { OnOk result (Does (alone routing.new) outs.old.items outs.new.items (works_on number registration act (alone routing.old))) }
+) -> Result<(), ActFault>
+    requires short { (told_on parts.old.keeping.keeper.shelf).stored ≡ true → IsShortAct act }
+    requires sound { IsSound D.Disk parts.old.keeping.keeper disk.old }
+    ensures acted { OnOk result (Acted D.Disk parts.old disk.old parts.new disk.new outs.old.items outs.new.items (works_on number registration act) (around (works_on number registration act))) }
+    ensures stopped { IfErr result (λ fault. Stopped D.Disk fault (seen parts.old) disk.old disk.new (around (works_on number registration act))) }
+    ensures keeper { parts.new.keeping.keeper ≡ record parts.old.keeping.keeper { shelf = parts.new.keeping.keeper.shelf } }
 {
     match act {
-        WorkerAct::Heartbeat => routing.mark(number),
-        WorkerAct::Disconnect => {
-            routing.go(number);
-            Ok(())
-        }
+        WorkerAct::Heartbeat => mark(parts, disk, number),
+        WorkerAct::Disconnect => depart(parts, disk, number),
         WorkerAct::Ready(_service) => {
-            refuse(alloc, routing, number, voice_at(&registration), outs)
+            refuse(alloc, parts, disk, number, voice_at(&registration), outs)
         }
         WorkerAct::Reply {
             last,
@@ -307,7 +267,8 @@ fn work_on(
             body,
         } => reply(
             alloc,
-            routing,
+            parts,
+            disk,
             number,
             registration,
             last,
@@ -319,63 +280,268 @@ fn work_on(
 }
 
 /// A reply, which counts where it names who asked what the worker holds.
-fn reply(
+fn reply<D: Disk>(
     alloc: Global,
-    routing: &mut Routing,
+    parts: &mut Parts,
+    disk: &mut D,
     number: u64,
     registration: Registration,
     last: bool,
     address: Octets,
     body: Frames,
     outs: &mut Vec<Out>,
-) -> Result<(), NoMemory>
-    ensures { OnOk result (Does (alone routing.new) outs.old.items outs.new.items (replied number registration last address body (held_by number routing.old.held) (alone routing.old))) }
+) -> Result<(), ActFault>
+    requires short { (told_on parts.old.keeping.keeper.shelf).stored ≡ true → IsShort body }
+    requires sound { IsSound D.Disk parts.old.keeping.keeper disk.old }
+    ensures acted { OnOk result (Acted D.Disk parts.old disk.old parts.new disk.new outs.old.items outs.new.items (replied number registration last address body (held_by number parts.old.routing.held)) (around (replied number registration last address body (held_by number parts.old.routing.held)))) }
+    ensures stopped { IfErr result (λ fault. Stopped D.Disk fault (seen parts.old) disk.old disk.new (around (replied number registration last address body (held_by number parts.old.routing.held)))) }
+    ensures keeper { parts.new.keeping.keeper ≡ record parts.old.keeping.keeper { shelf = parts.new.keeping.keeper.shelf } }
 {
-    let Some(request) = routing.held_by(number)? else {
-        return refuse(alloc, routing, number, voice_at(&registration), outs);
+    let request = match parts.routing.held_by(number) {
+        Ok(Some(request)) => request,
+        Ok(None) => return refuse(alloc, parts, disk, number, voice_at(&registration), outs),
+        Err(NoMemory) => return Err(ActFault::NoMemory),
     };
     if !is_address(address.as_slice(), request.origin) {
-        return refuse(alloc, routing, number, voice_at(&registration), outs);
+        return refuse(alloc, parts, disk, number, voice_at(&registration), outs);
     }
-    routing.mark(number)?;
-    deliver(alloc, routing, last, request, body, outs)?;
-    rest(routing, last, number, &registration.service)
+    take_reply(alloc, parts, disk, number, &registration.service, last, &request, body, outs)
 }
 
-/// Passes a reply on to who asked.
-fn deliver(
+/// A reply that counts.
+fn take_reply<D: Disk>(
     alloc: Global,
-    routing: &mut Routing,
+    parts: &mut Parts,
+    disk: &mut D,
+    number: u64,
+    service: &Name,
     last: bool,
-    request: Request,
+    request: &Request,
     body: Frames,
     outs: &mut Vec<Out>,
-) -> Result<(), NoMemory>
-    requires { is_of_client request.origin ≡ true }
-    ensures { OnOk result (Does (alone routing.new) outs.old.items outs.new.items (delivers last request body (alone routing.old))) }
+) -> Result<(), ActFault>
+    requires short { (told_on parts.old.keeping.keeper.shelf).stored ≡ true → IsShort body }
+    requires sound { IsSound D.Disk parts.old.keeping.keeper disk.old }
+    ensures acted { OnOk result (Acted D.Disk parts.old disk.old parts.new disk.new outs.old.items outs.new.items (takes_reply number service.now last request.now body) (around (takes_reply number service.now last request.now body))) }
+    ensures stopped { IfErr result (λ fault. Stopped D.Disk fault (seen parts.old) disk.old disk.new (around (takes_reply number service.now last request.now body))) }
+    ensures keeper { parts.new.keeping.keeper ≡ record parts.old.keeping.keeper { shelf = parts.new.keeping.keeper.shelf } }
+{
+    match mark(parts, disk, number) {
+        Ok(()) => {}
+        Err(fault) => return Err(fault),
+    }
+    match pass_on(alloc, parts, disk, last, request, body, outs) {
+        Ok(()) => {}
+        Err(fault) => return Err(fault),
+    }
+    rest(parts, disk, last, number, service)
+}
+
+/// Passes a reply on to who asked, or stores it.
+fn pass_on<D: Disk>(
+    alloc: Global,
+    parts: &mut Parts,
+    disk: &mut D,
+    last: bool,
+    request: &Request,
+    body: Frames,
+    outs: &mut Vec<Out>,
+) -> Result<(), ActFault>
+    requires short { (told_on parts.old.keeping.keeper.shelf).stored ≡ true → IsShort body }
+    requires sound { IsSound D.Disk parts.old.keeping.keeper disk.old }
+    ensures acted { OnOk result (Acted D.Disk parts.old disk.old parts.new disk.new outs.old.items outs.new.items (delivers last request.now body) (around (delivers last request.now body))) }
+    ensures stopped { IfErr result (λ fault. Stopped D.Disk fault (seen parts.old) disk.old disk.new (around (delivers last request.now body))) }
+    ensures keeper { parts.new.keeping.keeper ≡ record parts.old.keeping.keeper { shelf = parts.new.keeping.keeper.shelf } }
 {
     match request.origin {
         Origin::Client(client) => {
-            if routing.is_asking(client) && (last || is_two(request.version)) {
-                let piece = reply_octets(alloc, last, &request, body)?;
-                routing.send(client, piece, outs)
+            deliver(alloc, parts, disk, client, last, request, body, outs)
+        }
+        Origin::Ticket(number) => {
+            if last {
+                keep(alloc, parts, disk, number, &body, outs)
             } else {
                 Ok(())
             }
         }
-        // Without a store nobody holds a ticket's request.
-        Origin::Ticket(_ticket) => unreachable!(),
+    }
+}
+
+/// A command that the sender's role doesn't allow: the connection is passed over from now on, and is told so.
+fn refuse<D: Disk>(
+    alloc: Global,
+    parts: &mut Parts,
+    disk: &D,
+    number: u64,
+    voice: Voice,
+    outs: &mut Vec<Out>,
+) -> Result<(), ActFault>
+    requires sound { IsSound D.Disk parts.old.keeping.keeper disk.now }
+    ensures acted { OnOk result (Acted D.Disk parts.old disk.now parts.new disk.now outs.old.items outs.new.items (routes (unexpected number voice)) (around (routes (unexpected number voice)))) }
+    ensures stopped { IfErr result (λ fault. Stopped D.Disk fault (seen parts.old) disk.now disk.now (around (routes (unexpected number voice)))) }
+    ensures keeper { parts.new.keeping.keeper ≡ record parts.old.keeping.keeper { shelf = parts.new.keeping.keeper.shelf } }
+{
+    match rows::refuse(alloc, &mut parts.routing, number, voice, &parts.keeping.keeper, outs) {
+        Ok(()) => Ok(()),
+        Err(NoMemory) => Err(ActFault::NoMemory),
+    }
+}
+
+/// Answers a request under a name of the broker's own.
+fn answer<D: Disk>(
+    alloc: Global,
+    parts: &mut Parts,
+    disk: &D,
+    number: u64,
+    request: &Request,
+    outs: &mut Vec<Out>,
+) -> Result<(), ActFault>
+    requires sound { IsSound D.Disk parts.old.keeping.keeper disk.now }
+    ensures acted { OnOk result (Acted D.Disk parts.old disk.now parts.new disk.now outs.old.items outs.new.items (routes (answers_itself number request.now)) (around (routes (answers_itself number request.now)))) }
+    ensures stopped { IfErr result (λ fault. Stopped D.Disk fault (seen parts.old) disk.now disk.now (around (routes (answers_itself number request.now)))) }
+    ensures keeper { parts.new.keeping.keeper ≡ record parts.old.keeping.keeper { shelf = parts.new.keeping.keeper.shelf } }
+{
+    match rows::answer(alloc, &mut parts.routing, number, request, &parts.keeping.keeper, outs) {
+        Ok(()) => Ok(()),
+        Err(NoMemory) => Err(ActFault::NoMemory),
+    }
+}
+
+/// A worker's command of one that is no worker yet.
+fn begin<D: Disk>(
+    alloc: Global,
+    parts: &mut Parts,
+    disk: &D,
+    number: u64,
+    voice: Voice,
+    act: WorkerAct,
+    outs: &mut Vec<Out>,
+) -> Result<(), ActFault>
+    requires sound { IsSound D.Disk parts.old.keeping.keeper disk.now }
+    ensures acted { OnOk result (Acted D.Disk parts.old disk.now parts.new disk.now outs.old.items outs.new.items (routes (begins number voice act)) (around (routes (begins number voice act)))) }
+    ensures stopped { IfErr result (λ fault. Stopped D.Disk fault (seen parts.old) disk.now disk.now (around (routes (begins number voice act)))) }
+    ensures keeper { parts.new.keeping.keeper ≡ record parts.old.keeping.keeper { shelf = parts.new.keeping.keeper.shelf } }
+{
+    match rows::begin(alloc, &mut parts.routing, number, voice, act, &parts.keeping.keeper, outs) {
+        Ok(()) => Ok(()),
+        Err(NoMemory) => Err(ActFault::NoMemory),
+    }
+}
+
+/// A worker's command of a client, or in another version.
+fn stray<D: Disk>(
+    alloc: Global,
+    parts: &mut Parts,
+    disk: &D,
+    number: u64,
+    voice: Voice,
+    act: &WorkerAct,
+    outs: &mut Vec<Out>,
+) -> Result<(), ActFault>
+    requires sound { IsSound D.Disk parts.old.keeping.keeper disk.now }
+    ensures acted { OnOk result (Acted D.Disk parts.old disk.now parts.new disk.now outs.old.items outs.new.items (routes (strays number voice act.now)) (around (routes (strays number voice act.now)))) }
+    ensures stopped { IfErr result (λ fault. Stopped D.Disk fault (seen parts.old) disk.now disk.now (around (routes (strays number voice act.now)))) }
+    ensures keeper { parts.new.keeping.keeper ≡ record parts.old.keeping.keeper { shelf = parts.new.keeping.keeper.shelf } }
+{
+    match rows::stray(alloc, &mut parts.routing, number, voice, act, &parts.keeping.keeper, outs) {
+        Ok(()) => Ok(()),
+        Err(NoMemory) => Err(ActFault::NoMemory),
+    }
+}
+
+/// Passes a reply on to the client that asked.
+fn deliver<D: Disk>(
+    alloc: Global,
+    parts: &mut Parts,
+    disk: &D,
+    client: u64,
+    last: bool,
+    request: &Request,
+    body: Frames,
+    outs: &mut Vec<Out>,
+) -> Result<(), ActFault>
+    requires sound { IsSound D.Disk parts.old.keeping.keeper disk.now }
+    ensures acted { OnOk result (Acted D.Disk parts.old disk.now parts.new disk.now outs.old.items outs.new.items (routes (delivers_back client last request.now body)) (around (routes (delivers_back client last request.now body)))) }
+    ensures stopped { IfErr result (λ fault. Stopped D.Disk fault (seen parts.old) disk.now disk.now (around (routes (delivers_back client last request.now body)))) }
+    ensures keeper { parts.new.keeping.keeper ≡ record parts.old.keeping.keeper { shelf = parts.new.keeping.keeper.shelf } }
+{
+    match rows::deliver(alloc, &mut parts.routing, client, last, request, body, &parts.keeping.keeper, outs) {
+        Ok(()) => Ok(()),
+        Err(NoMemory) => Err(ActFault::NoMemory),
+    }
+}
+
+/// Queues a client's request, or ends the connection where it is one too many.
+fn queue<D: Disk>(
+    parts: &mut Parts,
+    disk: &D,
+    lane: u32,
+    number: u64,
+    request: Request,
+    outs: &mut Vec<Out>,
+) -> Result<(), ActFault>
+    requires client { is_of_client request.origin ≡ true }
+    requires sound { IsSound D.Disk parts.old.keeping.keeper disk.now }
+    ensures acted { OnOk result (Acted D.Disk parts.old disk.now parts.new disk.now outs.old.items outs.new.items (routes (queues lane number request)) (around (routes (queues lane number request)))) }
+    ensures stopped { IfErr result (λ fault. Stopped D.Disk fault (seen parts.old) disk.now disk.now (around (routes (queues lane number request)))) }
+    ensures keeper { parts.new.keeping.keeper ≡ record parts.old.keeping.keeper { shelf = parts.new.keeping.keeper.shelf } }
+{
+    match parts.routing.queue(lane, number, request, &parts.keeping.keeper, outs) {
+        Ok(()) => Ok(()),
+        Err(NoMemory) => Err(ActFault::NoMemory),
+    }
+}
+
+/// The connection is passed over from now on, and is told nothing.
+fn depart<D: Disk>(
+    parts: &mut Parts,
+    disk: &D,
+    number: u64,
+) -> Result<(), ActFault>
+    requires sound { IsSound D.Disk parts.old.keeping.keeper disk.now }
+    ensures acted { OnOk result ((outs : List AnOut) → Acted D.Disk parts.old disk.now parts.new disk.now outs outs (routes (departs number)) (around (routes (departs number)))) }
+    ensures stopped { IfErr result (λ fault. Stopped D.Disk fault (seen parts.old) disk.now disk.now (around (routes (departs number)))) }
+    ensures keeper { parts.new.keeping.keeper ≡ record parts.old.keeping.keeper { shelf = parts.new.keeping.keeper.shelf } }
+{
+    match parts.routing.go(number, &parts.keeping.keeper) {
+        Ok(()) => Ok(()),
+        Err(NoMemory) => Err(ActFault::NoMemory),
+    }
+}
+
+/// The worker was heard.
+fn mark<D: Disk>(
+    parts: &mut Parts,
+    disk: &D,
+    number: u64,
+) -> Result<(), ActFault>
+    requires sound { IsSound D.Disk parts.old.keeping.keeper disk.now }
+    ensures acted { OnOk result ((outs : List AnOut) → Acted D.Disk parts.old disk.now parts.new disk.now outs outs (hears number) (around (hears number))) }
+    ensures stopped { IfErr result (λ fault. Stopped D.Disk fault (seen parts.old) disk.now disk.now (around (hears number))) }
+    ensures keeper { parts.new.keeping.keeper ≡ record parts.old.keeping.keeper { shelf = parts.new.keeping.keeper.shelf } }
+{
+    match parts.routing.mark(number) {
+        Ok(()) => Ok(()),
+        Err(NoMemory) => Err(ActFault::NoMemory),
     }
 }
 
 /// Behind a final reply the worker waits again.
-fn rest(routing: &mut Routing, last: bool, number: u64, service: &Name) -> Result<(), NoMemory>
-    ensures { OnOk result ((outs : List AnOut) → Does routing.new outs outs (rests last number service.now untold routing.old)) }
+fn rest<D: Disk>(
+    parts: &mut Parts,
+    disk: &D,
+    last: bool,
+    number: u64,
+    service: &Name,
+) -> Result<(), ActFault>
+    requires sound { IsSound D.Disk parts.old.keeping.keeper disk.now }
+    ensures acted { OnOk result ((outs : List AnOut) → Acted D.Disk parts.old disk.now parts.new disk.now outs outs (routes (rests last number service.now)) (around (routes (rests last number service.now)))) }
+    ensures stopped { IfErr result (λ fault. Stopped D.Disk fault (seen parts.old) disk.now disk.now (around (routes (rests last number service.now)))) }
+    ensures keeper { parts.new.keeping.keeper ≡ record parts.old.keeping.keeper { shelf = parts.new.keeping.keeper.shelf } }
 {
-    if last {
-        routing.wait(number, service)
-    } else {
-        Ok(())
+    match rows::rest(&mut parts.routing, last, number, service) {
+        Ok(()) => Ok(()),
+        Err(NoMemory) => Err(ActFault::NoMemory),
     }
 }
 
@@ -409,15 +575,6 @@ fn voice_at(registration: &Registration) -> Voice
     }
 }
 
-fn is_disconnect(act: &WorkerAct) -> bool
-    ensures { result ≡ ends_it act.now }
-{
-    match act {
-        WorkerAct::Disconnect => true,
-        WorkerAct::Ready(_) | WorkerAct::Heartbeat | WorkerAct::Reply { .. } => false,
-    }
-}
-
 fn is_same_version(version: Version, other: Version) -> bool
     ensures { result ≡ MessageStep.same_version version other }
 {
@@ -427,11 +584,3 @@ fn is_same_version(version: Version, other: Version) -> bool
     }
 }
 
-fn is_two(version: Version) -> bool
-    ensures { result ≡ MessageStep.is_two version }
-{
-    match version {
-        Version::One => false,
-        Version::Two => true,
-    }
-}

@@ -33,14 +33,14 @@ Absent n s = connection_of n s.connections ≡ None
 abbrev Another : ℕ → State → ℕ → Type 0
 Another n s lane = n ≢ s.next
 
-absent-changed : (n q : ℕ) (f : Connection → Connection) → Keeps f → (cs : List Connection) → connection_of n cs ≡ None → connection_of n (changed q f cs) ≡ None
+pub absent-changed : (n q : ℕ) (f : Connection → Connection) → Keeps f → (cs : List Connection) → connection_of n cs ≡ None → connection_of n (changed q f cs) ≡ None
 absent-changed n q f keeps cs none =
     elim (eqb_tells n q) [
       | inl same ↦ subst (λ (x : ℕ). connection_of n (changed x f cs) ≡ None) same.1 (changed-same n f keeps cs ∙ ap (λ (o : Option Connection). option_map f o) none)
       | inr other ↦ changed-other q n f keeps other.1 cs ∙ none
     ]
 
-absent-cut : (n q : ℕ) (cs : List Connection) → connection_of n cs ≡ None → connection_of n (connections_without q cs) ≡ None
+pub absent-cut : (n q : ℕ) (cs : List Connection) → connection_of n cs ≡ None → connection_of n (connections_without q cs) ≡ None
 absent-cut n q cs none =
     elim (eqb_tells n q) [
       | inl same ↦ subst (λ (x : ℕ). connection_of n (connections_without x cs) ≡ None) same.1 (cut_off-same n cs)

@@ -29,7 +29,7 @@ pub fewer : {X : Type 0} (p : X → Bool) (xs : List X) → length (filter p xs)
 fewer p xs = let both = length-filter_both p (λ x. not (p x)) (λ x. refl) xs in omega (arith, both)
 
 -- an element that doesn't pass goes
-drops-one : {X : Type 0} (p : X → Bool) (before : List X) (x : X) (after : List X) → p x ≡ false → length (filter p (before ++ x ∷ after)) < length (before ++ x ∷ after)
+pub drops-one : {X : Type 0} (p : X → Bool) (before : List X) (x : X) (after : List X) → p x ≡ false → length (filter p (before ++ x ∷ after)) < length (before ++ x ∷ after)
 drops-one p [] x after fails = let rest = fewer p after in rw fails (omega (arith, rest))
 drops-one p (y ∷ before) x after fails = by (p y) (drops-one p before x after fails)
   where
@@ -38,7 +38,7 @@ drops-one p (y ∷ before) x after fails = by (p y) (drops-one p before x after 
     by true less = omega (arith, less)
     by false less = omega (arith, less)
 
-first-shorter : {X : Type 0} (test : X → Bool) (xs : List X) (x : X) (rest : List X) → IsFirst test xs x rest → length rest < length xs
+pub first-shorter : {X : Type 0} (test : X → Bool) (xs : List X) (x : X) (rest : List X) → IsFirst test xs x rest → length rest < length xs
 first-shorter test xs x rest is =
     let whole = ap length is.whole in
     let parts = length-append is.before (x ∷ is.after) in
@@ -46,14 +46,14 @@ first-shorter test xs x rest is =
     let left_parts = length-append is.before is.after in
     omega (arith, whole, parts, left, left_parts)
 
-pair-is : (waiting : List Waiter) (requests : List Request) (p : Pair) → pair waiting requests ≡ Some p → IsPair waiting requests p
+pub pair-is : (waiting : List Waiter) (requests : List Request) (p : Pair) → pair waiting requests ≡ Some p → IsPair waiting requests p
 pair-is waiting requests p e = subst (λ (o : Option Pair). MatchOption o (list_any (has_waiter waiting) requests ≡ false) (IsPair waiting requests)) e (pair-is-first waiting requests)
 
 pub pair-fewer : (waiting : List Waiter) (requests : List Request) (p : Pair) → pair waiting requests ≡ Some p → length p.waiting < length waiting
 pair-fewer waiting requests p e = first-shorter _ waiting p.waiter p.waiting (pair-is waiting requests p e).found
 
 -- its worker stands among those that wait
-worker-fewer : (waiting : List Waiter) (requests : List Request) (p : Pair) → pair waiting requests ≡ Some p → length (without_worker p.waiter.worker waiting) < length waiting
+pub worker-fewer : (waiting : List Waiter) (requests : List Request) (p : Pair) → pair waiting requests ≡ Some p → length (without_worker p.waiter.worker waiting) < length waiting
 worker-fewer waiting requests p e =
     let first = (pair-is waiting requests p e).found in
     let waits_not : not (p.waiter.worker == p.waiter.worker) ≡ false = ap not (equal p.waiter.worker) in

@@ -9,6 +9,7 @@ use Rattle.mj_queue.specs.declared.request.Request.{Request}
 use Rattle.mj_queue.specs.declared.worker.Waiter.{Waiter}
 use Rattle.mj_queue.specs.HallState.{HallState}
 use Rattle.mj_queue.specs.HallSteps.{Takes}
+use Rattle.mj_queue.specs.Offers.{offer_of}
 use Rattle.mj_queue.specs.Settling.{given, has_waiter, pair, paired, put_back, serves, take_first}
 
 abbrev with_rest : {X : Type 0} → X → List X → Option (X × List X)
@@ -143,3 +144,11 @@ pub some_serves_it : (waiting read_waiting : List Waiter) (requests : List Reque
 some_serves_it waiting read_waiting requests at request place at_is request_is same place_is =
     subst (λ (o : Option ℕ). IsSome o) (ap (position (serves request.service)) (sym same) ∙ sym place_is)
     (has_place (serves request.service) waiting (passes_at (has_waiter waiting) requests at request at_is request_is))
+
+-- what is told of the pair that was found
+pub offer-seen : (limits : Limits) (waiting busy : List Waiter) (requests : List Request) (hall : HallState) (at place : ℕ) (request : Request) (waiter : Waiter)
+    → seen limits waiting busy requests ≡ hall → FoundPair waiting requests at place request waiter
+    → Some (record { worker = waiter.worker; service = waiter.service; origin = request.origin }) ≡ option_map offer_of (pair hall.waiting hall.requests)
+offer-seen limits waiting busy requests hall at place request waiter is found =
+    subst (λ (h : HallState). Some (record { worker = waiter.worker; service = waiter.service; origin = request.origin }) ≡ option_map offer_of (pair h.waiting h.requests)) is
+    (sym (ap (option_map offer_of) (pair-at waiting requests at place request waiter found.at_is found.request_is found.place_is found.waiter_is)))

@@ -1,10 +1,11 @@
-ghost use Rattle.std.specs.Prelude.{◌≡◌, ◌++◌, [], is_some, OnOk, OnErr, IfOk};
+ghost use Rattle.std.specs.Prelude.{◌≡◌, ◌++◌, ◌∷◌, [], is_some, option_map, filter, OnOk, OnErr, IfOk};
 ghost use Rattle.mj_queue.specs.Settling;
 ghost use Rattle.mj_queue.specs.Settling.{is_served, pair, queued, without_client, without_ticket, without_worker};
+ghost use Rattle.mj_queue.specs.Offers.{offer_of};
 ghost use Rattle.mj_queue.specs.HallSteps.{Asked, Takes, waits};
 
 use super::places::{self, is_of_client, place_of_request, place_of_worker, some_serves};
-use super::{AskFault, Request, Waiter, weight};
+use super::{AskFault, Offer, Request, Waiter, weight};
 use mj_base::{Limits, Name, NoMemory};
 use std::alloc::Global;
 use std::marker::Model;
@@ -74,6 +75,15 @@ impl Hall {
         }
     }
 
+    /// Puts the request last, however many are queued.
+    pub fn queue(&mut self, request: Request) -> Result<(), NoMemory>
+        ensures ok { OnOk result (self.new ≡ record self.old { requests = self.old.requests ++ request ∷ [] }) }
+        ensures err { OnErr result (self.new ≡ self.old) }
+    {
+        self.requests.push(request)?;
+        Ok(())
+    }
+
     /// Whether this is a client request that no worker waits for, and too many are queued or they would weigh
     /// too much with it.
     fn is_too_much(&self, request: &Request) -> bool
@@ -100,6 +110,23 @@ impl Hall {
         let worker = waiter.worker;
         self.busy.push(waiter).unwrap();
         Some((worker, request))
+    }
+
+    /// The pair that `take_pair` takes, which stays where it is.
+    pub fn offer(&self) -> Option<Offer>
+        ensures { result ≡ option_map offer_of (pair self.now.waiting self.now.requests) }
+    {
+        let Some(at) = place_of_request(&self.requests, &self.waiting) else {
+            return None;
+        };
+        let request = &self.requests[at];
+        let place = place_of_worker(&self.waiting, &request.service).unwrap();
+        let waiter = &self.waiting[place];
+        Some(Offer {
+            worker: waiter.worker,
+            service: waiter.service.copy(),
+            origin: request.origin,
+        })
     }
 
     /// Whether some request's service has a waiting worker.
@@ -132,6 +159,13 @@ impl Hall {
         ensures { self.new ≡ record self.old { requests = without_ticket number self.old.requests } }
     {
         places::drop_ticket(&mut self.requests, number);
+    }
+
+    /// Takes out the requests of all tickets.
+    pub fn drop_tickets(&mut self)
+        ensures { self.new ≡ record self.old { requests = filter (λ r. Settling.is_of_client r.origin) self.old.requests } }
+    {
+        places::drop_tickets(&mut self.requests);
     }
 
     /// Whether a worker waits for this service or is busy with it.

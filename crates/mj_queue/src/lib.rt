@@ -3,6 +3,7 @@
 
 mod hall;
 mod laws;
+mod offer;
 mod places;
 mod request;
 mod weight;
@@ -10,5 +11,6 @@ mod worker;
 
 pub use hall::Hall;
 pub use laws::a_pair_is_the_first_on_both_sides;
+pub use offer::Offer;
 pub use request::{AskFault, Origin, Request};
 pub use worker::Waiter;

@@ -1,4 +1,4 @@
-ghost use Rattle.std.specs.Prelude.{◌≡◌, ◌≤◌, position, vec_len, vec_capacity};
+ghost use Rattle.std.specs.Prelude.{◌≡◌, ◌≤◌, filter, position, vec_len, vec_capacity};
 ghost use Rattle.std.specs.List.{list_any};
 ghost use Rattle.mj_queue.specs.Settling;
 ghost use Rattle.mj_queue.specs.Settling.{serves, has_waiter, without_client, without_ticket, without_worker};
@@ -67,6 +67,13 @@ pub fn drop_ticket(requests: &mut Vec<Request>, number: u64)
     ensures { requests.new.items ≡ without_ticket number requests.old.items }
 {
     requests.retain(|request| !is_ticket(request.origin, number));
+}
+
+/// Takes out the requests of all tickets.
+pub fn drop_tickets(requests: &mut Vec<Request>)
+    ensures { requests.new.items ≡ filter (λ r. Settling.is_of_client r.origin) requests.old.items }
+{
+    requests.retain(|request| is_of_client(request.origin));
 }
 
 fn is_client(origin: Origin, number: u64) -> bool

@@ -15,6 +15,7 @@ use Rattle.mj_lease.proofs.EntryLemmas.{tie}
 use Rattle.mj_machine.specs.declared.connection.Connection.{Connection}
 use Rattle.mj_machine.specs.declared.held.Held.{Held}
 use Rattle.mj_base.specs.declared.event.Out.{Out}
+use Rattle.mj_machine.specs.StoreState.{Told}
 use Rattle.mj_machine.specs.MachineState.{State}
 use Rattle.mj_machine.specs.Acts.{each}
 use Rattle.mj_machine.specs.Connections.{connection_of}
@@ -22,7 +23,6 @@ use Rattle.mj_machine.specs.TickStep.{all_beat, beats, deadline_of, due_numbers,
 use Rattle.mj_machine.proofs.ConnectionLemmas.{agrees, differs}
 use Rattle.mj_queue.specs.HallState.{HallState}
 use Rattle.mj_routing.specs.RoutingState.{AllAbove, AreKept, AreRising, Does, seen}
-use Rattle.mj_routing.specs.Storeless.{untold}
 use Rattle.mj_routing.specs.Deadlines.{LeasesStand, deadline_at, deadline_on, kept}
 
 -- ---- the deadlines of a list of connections, as entries
@@ -160,7 +160,7 @@ silent-somebody p (c ∷ cs) e = by (p c) refl e (silent-somebody p cs)
     by true is none rest = cc
     by false is none rest = rest none
 
-pub nobody-beats : (s : State) (before : List Out) → list_any (λ c. is_unspoken s.limits s.now c.role) s.connections ≡ false → Does s before before (all_beat untold s)
-nobody-beats s before e =
+pub nobody-beats : (told : Told) (s : State) (before : List Out) → list_any (λ c. is_unspoken s.limits s.now c.role) s.connections ≡ false → Does s before before (all_beat told s)
+nobody-beats told s before e =
     let none : silent_numbers s ≡ [] = nobody-silent (λ c. is_unspoken s.limits s.now c.role) s.connections e in
-    subst (λ (ns : List ℕ). Does s before before (each (λ n t. beats n untold t) ns s)) (sym none) (record { state = refl; outs = sym (append-nil before) })
+    subst (λ (ns : List ℕ). Does s before before (each (λ n t. beats n told t) ns s)) (sym none) (record { state = refl; outs = sym (append-nil before) })

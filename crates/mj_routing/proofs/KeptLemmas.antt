@@ -27,12 +27,9 @@ use Rattle.mj_machine.specs.MessageStep.{busy_of}
 use Rattle.mj_machine.specs.Pairing.{held_by_pair, mark_set}
 use Rattle.mj_machine.specs.Sending.{sent}
 use Rattle.mj_machine.specs.TickStep.{deadline_of, is_holding}
-use Rattle.mj_machine.proofs.ListLemmas.{all-append, all-filter}
 use Rattle.mj_machine.proofs.ConnectionLemmas.{Keeps, changed-other, changed-same, cut_off-other, cut_off-same, holding-append, holding-without-other}
 use Rattle.mj_routing.specs.RoutingState.{AllAbove, AreKept, AreRising}
 use Rattle.mj_routing.specs.Deadlines.{LeasesStand, SameBut, deadline_at, deadline_on, kept}
-use Rattle.mj_routing.specs.Storeless.{HeldOfClients, OfClients}
-use Rattle.mj_routing.proofs.StorelessLemmas.{clients-paired}
 
 -- ---- numbers that rise
 
@@ -167,16 +164,14 @@ spoken-still limits held q now Gone = refl
 
 -- ---- the whole
 
-pub kept-none : (limits : Limits) (cs : List Connection) (hall : HallState) (held : List Held) (leases : FinMap nat_cmp ℕ) → hall.limits ≡ limits → hall.busy ≡ [] → hall.requests ≡ [] → cs ≡ [] → held ≡ [] → leases ≡ leases_by.empty
+pub kept-none : (limits : Limits) (cs : List Connection) (hall : HallState) (held : List Held) (leases : FinMap nat_cmp ℕ) → hall.limits ≡ limits → hall.busy ≡ [] → cs ≡ [] → held ≡ [] → leases ≡ leases_by.empty
     → AreKept limits 0 1 cs hall held leases
-kept-none limits cs hall held leases limited busy asked cs_is held_is leases_is = rw cs_is (rw held_is (rw leases_is (record {
+kept-none limits cs hall held leases limited busy cs_is held_is leases_is = rw cs_is (rw held_is (rw leases_is (record {
   limited = limited;
   busy = busy;
   rising = tt;
   deadlines = λ q. get-empty nat_cmp q;
   clock = omega arith;
-  queued = subst OfClients (sym asked) tt;
-  worked = tt;
 })))
 
 -- what taking a number out of the table does
@@ -202,17 +197,6 @@ left-limits n hall worker new is = ap (λ (h : HallState). h.limits) is.1 ∙ ap
 left-busy : (n : ℕ) (hall worker new : HallState) → LeftHall n hall worker new → new.busy ≡ without_worker n hall.busy
 left-busy n hall worker new is = ap (λ (h : HallState). h.busy) is.1 ∙ ap (λ (h : HallState). h.busy) is.0
 
-left-requests : (n : ℕ) (hall worker new : HallState) → LeftHall n hall worker new → new.requests ≡ without_client n hall.requests
-left-requests n hall worker new is = ap (λ (h : HallState). h.requests) is.1 ∙ ap (λ (h : HallState). without_client n h.requests) is.0
-
--- ---- requests of clients
-
-clients-left : (n : ℕ) (requests : List Request) → OfClients requests → OfClients (without_client n requests)
-clients-left n requests clients = all-filter (λ r. is_of_client r.origin ≡ true) _ requests clients
-
-held-left : (n : ℕ) (held : List Held) → HeldOfClients held → HeldOfClients (held_without n held)
-held-left n held clients = all-filter (λ h. is_of_client h.request.origin ≡ true) _ held clients
-
 module _ (limits : Limits) (moment next : ℕ) (cs : List Connection) (hall : HallState) (held : List Held) (leases : FinMap nat_cmp ℕ) (k : AreKept limits moment next cs hall held leases) where
   -- it left, and has a role without a lease
   pub kept-left : (cs_new : List Connection) (worker new : HallState) (held_new : List Held) (leases_new : FinMap nat_cmp ℕ) (n : ℕ) (role : Role)
@@ -226,8 +210,6 @@ module _ (limits : Limits) (moment next : ℕ) (cs : List Connection) (hall : Ha
         (same-then limits n cs cs (changed n (with_role role) cs) held (held_without n held) (held_without n held) (same-held limits n cs held) (same-changed limits n (with_role role) (λ c. refl) cs (held_without n held)))
         (ap (deadline_at limits (held_without n held) n) (changed-same n (with_role role) (λ c. refl) cs) ∙ none-role limits n role (held_without n held) (none (held_without n held)) (connection_of n cs));
     clock = k.clock;
-    queued = subst OfClients (sym (left-requests n hall worker new left)) (clients-left n hall.requests k.queued);
-    worked = held-left n held k.worked;
   }))
 
   -- it left and is there no more
@@ -242,8 +224,6 @@ module _ (limits : Limits) (moment next : ℕ) (cs : List Connection) (hall : Ha
         (same-then limits n cs cs (connections_without n cs) held (held_without n held) (held_without n held) (same-held limits n cs held) (same-cut_off limits n cs (held_without n held)))
         (ap (deadline_at limits (held_without n held) n) (cut_off-same n cs));
     clock = k.clock;
-    queued = subst OfClients (sym (left-requests n hall worker new left)) (clients-left n hall.requests k.queued);
-    worked = held-left n held k.worked;
   }))
 
   -- its role alone changed, to one without a lease
@@ -256,28 +236,24 @@ module _ (limits : Limits) (moment next : ℕ) (cs : List Connection) (hall : Ha
     deadlines = forgets limits cs (changed n (with_role role) cs) held held k.deadlines (same-changed limits n (with_role role) (λ c. refl) cs held)
         (ap (deadline_at limits held n) (changed-same n (with_role role) (λ c. refl) cs) ∙ none-role limits n role held (none held) (connection_of n cs));
     clock = k.clock;
-    queued = k.queued;
-    worked = k.worked;
   })
 
   -- its lease began anew
   pub kept-renewed : (cs_new slice : List Connection) (new : HallState) (held_new held_slice : List Held) (reserved leases_new : FinMap nat_cmp ℕ) (n : ℕ)
-      → new.limits ≡ hall.limits → new.busy ≡ map busy_of held_new → OfClients new.requests → HeldOfClients held_new → AreRising next cs_new → SameBut n limits cs held cs_new held_new
+      → new.limits ≡ hall.limits → new.busy ≡ map busy_of held_new → AreRising next cs_new → SameBut n limits cs held cs_new held_new
       → reserved ≡ leases → slice ≡ cs_new → held_slice ≡ held_new → Renews n limits reserved slice held_slice leases_new → AreKept limits moment next cs_new new held_new leases_new
-  kept-renewed cs_new slice new held_new held_slice reserved leases_new n limited busy queued worked rising same reserved_is slice_is held_slice_is renews = record {
+  kept-renewed cs_new slice new held_new held_slice reserved leases_new n limited busy rising same reserved_is slice_is held_slice_is renews = record {
     limited = limited ∙ k.limited;
     busy = busy;
     rising = rising;
     deadlines = rw (sym held_slice_is) (rw (sym slice_is) (renews cs held (rw reserved_is k.deadlines) (rw held_slice_is (rw slice_is same))));
     clock = k.clock;
-    queued = queued;
-    worked = worked;
   }
 
   pub kept-marked : (cs_new slice : List Connection) (held_slice : List Held) (reserved leases_new : FinMap nat_cmp ℕ) (n : ℕ) → cs_new ≡ changed n (mark_set moment) cs
       → reserved ≡ leases → slice ≡ cs_new → held_slice ≡ held → Renews n limits reserved slice held_slice leases_new → AreKept limits moment next cs_new hall held leases_new
   kept-marked cs_new slice held_slice reserved leases_new n cs_is reserved_is slice_is held_slice_is renews =
-      kept-renewed cs_new slice hall held held_slice reserved leases_new n refl k.busy k.queued k.worked (rw cs_is (rising-changed next n (mark_set moment) (λ c. refl) cs k.rising))
+      kept-renewed cs_new slice hall held held_slice reserved leases_new n refl k.busy (rw cs_is (rising-changed next n (mark_set moment) (λ c. refl) cs k.rising))
       (rw cs_is (same-changed limits n (mark_set moment) (λ c. refl) cs held)) reserved_is slice_is held_slice_is renews
 
   pub kept-waiting : (slice : List Connection) (new : HallState) (held_new held_slice : List Held) (reserved leases_new : FinMap nat_cmp ℕ) (n : ℕ) (service : List ℕ)
@@ -286,7 +262,7 @@ module _ (limits : Limits) (moment next : ℕ) (cs : List Connection) (hall : Ha
   kept-waiting slice new held_new held_slice reserved leases_new n service new_is held_is reserved_is slice_is held_slice_is renews =
       kept-renewed cs slice new held_new held_slice reserved leases_new n (ap (λ (h : HallState). h.limits) new_is)
       (ap (λ (h : HallState). h.busy) new_is ∙ ap (without_worker n) k.busy ∙ sym (busy-without n held) ∙ ap (map busy_of) (sym held_is))
-      (subst (λ (h : HallState). OfClients h.requests) (sym new_is) k.queued) (subst HeldOfClients (sym held_is) (held-left n held k.worked)) k.rising
+      k.rising
       (rw held_is (same-held limits n cs held)) reserved_is slice_is held_slice_is renews
 
   -- a worker registered
@@ -297,7 +273,6 @@ module _ (limits : Limits) (moment next : ℕ) (cs : List Connection) (hall : Ha
   kept-registered cs_new slice new held_new held_slice reserved leases_new n service role new_is held_is cs_is reserved_is slice_is held_slice_is renews =
       kept-renewed cs_new slice new held_new held_slice reserved leases_new n (ap (λ (h : HallState). h.limits) new_is)
       (ap (λ (h : HallState). h.busy) new_is ∙ ap (without_worker n) k.busy ∙ sym (busy-without n held) ∙ ap (map busy_of) (sym held_is))
-      (subst (λ (h : HallState). OfClients h.requests) (sym new_is) k.queued) (subst HeldOfClients (sym held_is) (held-left n held k.worked))
       (rw cs_is (rising-changed next n (with_role role) (λ c. refl) cs k.rising))
       (rw held_is (rw cs_is (same-then limits n cs cs (changed n (with_role role) cs) held (held_without n held) (held_without n held) (same-held limits n cs held) (same-changed limits n (with_role role) (λ c. refl) cs (held_without n held)))))
       reserved_is slice_is held_slice_is renews
@@ -308,12 +283,9 @@ module _ (limits : Limits) (moment next : ℕ) (cs : List Connection) (hall : Ha
       → reserved ≡ leases → slice ≡ cs_new → held_slice ≡ held_new → Renews n limits reserved slice held_slice leases_new
       → AreKept limits moment next cs_new new held_new leases_new
   kept-handed cs_new slice new held_new held_slice reserved leases_new p n n_is pair_is new_is held_is cs_is reserved_is slice_is held_slice_is renews =
-      let clients = clients-paired hall.waiting hall.requests p k.queued pair_is in
       kept-renewed cs_new slice new held_new held_slice reserved leases_new n (ap (λ (h : HallState). h.limits) new_is)
       (ap (λ (h : HallState). h.busy) new_is ∙ ap (λ (ws : List Waiter). ws ++ p.waiter ∷ []) k.busy ∙ ap (λ (w : Waiter). map busy_of held ++ w ∷ []) (pair-service hall.waiting hall.requests p pair_is)
       ∙ sym (busy-added held (held_by_pair p)) ∙ ap (map busy_of) (sym held_is))
-      (subst (λ (h : HallState). OfClients h.requests) (sym new_is) clients.rest)
-      (subst HeldOfClients (sym held_is) (all-append (λ h. is_of_client h.request.origin ≡ true) held (held_by_pair p ∷ []) k.worked (clients.first, tt)))
       (rw cs_is (rising-changed next n (mark_set moment) (λ c. refl) cs k.rising))
       (rw held_is (rw cs_is (rw n_is (same-then limits p.waiter.worker cs cs (changed p.waiter.worker (mark_set moment) cs) held (held ++ held_by_pair p ∷ []) (held ++ held_by_pair p ∷ [])
       (same-added limits cs held (held_by_pair p)) (same-changed limits p.waiter.worker (mark_set moment) (λ c. refl) cs (held ++ held_by_pair p ∷ []))))))
@@ -328,8 +300,6 @@ module _ (limits : Limits) (moment next : ℕ) (cs : List Connection) (hall : Ha
     rising = rising-changed next n f keeps cs k.rising;
     deadlines = λ q. k.deadlines q ∙ ap (option_map kept) (sym (unmoved limits held n f keeps still cs q));
     clock = k.clock;
-    queued = k.queued;
-    worked = k.worked;
   })
 
   pub kept-sent : (n octets now : ℕ) (cs_new : List Connection) → cs_new ≡ changed n (sent now octets) cs → AreKept limits moment next cs_new hall held leases
@@ -346,8 +316,6 @@ module _ (limits : Limits) (moment next : ℕ) (cs : List Connection) (hall : Ha
     rising = rising-added next c cs number_is k.rising;
     deadlines = λ q. k.deadlines q ∙ ap (option_map kept) (sym (ap (deadline_at limits held q) (find-append (λ d. d.number == q) cs (c ∷ [])) ∙ at q (connection_of q cs) (c.number == q)));
     clock = k.clock;
-    queued = k.queued;
-    worked = k.worked;
   })
     where
       last : (q : ℕ) (b : Bool) → deadline_at limits held q (cond {A = Option Connection} b (Some c) None) ≡ None
@@ -360,17 +328,8 @@ module _ (limits : Limits) (moment next : ℕ) (cs : List Connection) (hall : Ha
 
   -- time went on
   pub kept-moment : (now : ℕ) → now ≤ 1000000000000000 → AreKept limits now next cs hall held leases
-  kept-moment now small = record { limited = k.limited; busy = k.busy; rising = k.rising; deadlines = k.deadlines; clock = small; queued = k.queued; worked = k.worked }
+  kept-moment now small = record { limited = k.limited; busy = k.busy; rising = k.rising; deadlines = k.deadlines; clock = small }
 
-  -- a client's request was queued
-  pub kept-asked : (new : HallState) (request : Request) → is_of_client request.origin ≡ true → new ≡ record hall { requests = hall.requests ++ request ∷ [] }
-      → AreKept limits moment next cs new held leases
-  kept-asked new request client new_is = rw new_is (record {
-    limited = k.limited;
-    busy = k.busy;
-    rising = k.rising;
-    deadlines = k.deadlines;
-    clock = k.clock;
-    queued = all-append (λ r. is_of_client r.origin ≡ true) hall.requests (request ∷ []) k.queued (client, tt);
-    worked = k.worked;
-  })
+  -- what is queued alone changed
+  pub kept-queue : (new : HallState) → new.limits ≡ hall.limits → new.busy ≡ hall.busy → AreKept limits moment next cs new held leases
+  kept-queue new limits_is busy_is = record { limited = limits_is ∙ k.limited; busy = busy_is ∙ k.busy; rising = k.rising; deadlines = k.deadlines; clock = k.clock }

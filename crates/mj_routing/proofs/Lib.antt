@@ -1,7 +1,10 @@
-pub mod StorelessLemmas
+pub mod ReturningLemmas
 pub mod KeyedLemmas
 pub mod PlaceLemmas
 pub mod DeadlineLemmas
 pub mod KeptLemmas
-pub mod SettleLemmas
+pub mod WaitingLemmas
+pub mod LeavingLemmas
 pub mod DueLemmas
+pub mod PlainLemmas
+pub mod FewerLemmas

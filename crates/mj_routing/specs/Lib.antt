@@ -1,6 +1,7 @@
 pub mod Keyed
 pub mod Places
 pub mod Deadlines
-pub mod Storeless
+pub mod Returning
 pub mod RoutingState
+pub mod Staying
 pub mod Rows

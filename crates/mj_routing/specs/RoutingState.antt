@@ -11,11 +11,10 @@ use Rattle.mj_machine.specs.declared.held.Held.{Held}
 use Rattle.mj_machine.specs.MachineState.{State}
 use Rattle.mj_machine.specs.Acts.{Doing}
 use Rattle.mj_machine.specs.Connections.{connection_of, voice_of}
-use Rattle.mj_machine.specs.Pairing.{handed, hands}
+use Rattle.mj_machine.specs.Pairing.{handed}
 use Rattle.mj_machine.specs.MessageStep.{busy_of}
 use Rattle.mj_machine.specs.TickStep.{at_moment, due_numbers, silent_numbers}
 use Rattle.mj_routing.specs.Deadlines.{LeasesStand}
-use Rattle.mj_routing.specs.Storeless.{HeldOfClients, OfClients, untold}
 use Rattle.mj_routing.specs.declared.routing.Handed.{Handed}
 
 -- the machine's state that these lists are
@@ -41,16 +40,13 @@ AreRising next [] = ⊤
 AreRising next (c ∷ cs) = (c.number < next) × AllAbove c.number cs × AreRising next cs
 
 -- the hall's busy workers are those that hold, the connections stand by rising number, and the table of deadlines
--- stands for the workers' marks; what is queued and what is held is of clients, since without a store nothing makes a
--- ticket
+-- stands for the workers' marks
 pub record AreKept (limits : Limits) (moment next : ℕ) (connections : List Connection) (hall : HallState) (held : List Held) (leases : FinMap nat_cmp ℕ) : Type 0 where
   pub limited : hall.limits ≡ limits
   pub busy : hall.busy ≡ map busy_of held
   pub rising : AreRising next connections
   pub deadlines : LeasesStand limits connections held leases
   pub clock : moment ≤ 1000000000000000
-  pub queued : OfClients hall.requests
-  pub worked : HeldOfClients held
 
 -- an act was done: the state after it, and what it added
 pub record Does {S : Type 0} (now : S) (before after : List Out) (act : Doing S Out) : Type 0 where
@@ -65,10 +61,9 @@ abbrev pub HandsOver : State → State → Option Handed → Type 0
 HandsOver old now None = (pair old.waiting old.queue ≡ None) × (now ≡ old)
 HandsOver old now (Some given) = (p : Pair) × (pair old.waiting old.queue ≡ Some p) × (now ≡ handed p old) × (given ≡ handed_of p old)
 
--- one pair was dispatched, or there is none
-abbrev pub Turns : State → State → List Out → List Out → Bool → Type 0
-Turns old now before after true = (p : Pair) × (pair old.waiting old.queue ≡ Some p) × Does now before after (hands p.request.body p untold old)
-Turns old now before after false = (pair old.waiting old.queue ≡ None) × (now ≡ old) × (after ≡ before)
+-- there is a first pair, and this holds of it
+abbrev pub Gives : State → (Pair → Type 0) → Type 0
+Gives s P = (p : Pair) × (pair s.waiting s.queue ≡ Some p) × P p
 
 -- of an act in parts: what was done so far and what is left are the whole
 pub record Goes {S : Type 0} (whole left : Doing S Out) (before now : List Out) : Type 0 where

@@ -7,10 +7,12 @@ mod deadlines;
 mod held;
 mod routing;
 mod said;
+mod services;
 mod text;
 mod tick;
 
 pub use connections::Standing;
 pub use routing::Routing;
 pub use said::read_message;
+pub use services::is_titanic;
 pub use text::{is_address, order_octets, reply_octets};

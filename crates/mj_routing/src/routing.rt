@@ -1,30 +1,38 @@
-ghost use Rattle.std.specs.Prelude.{◌≡◌, ◌+◌, ◌++◌, [], ◌≤◌, ◌<◌, ◌^◌, vec_len, vec_capacity, is_some, true, None, Some, IsOk, OnOk, IfOk, IfSome};
+ghost use Rattle.std.specs.Prelude.{◌≡◌, ◌+◌, ◌++◌, ◌∷◌, [], ◌≤◌, ◌<◌, ◌^◌, vec_len, vec_capacity, is_some, option_map, true, None, Some, IsOk, OnOk, IfOk};
 ghost use Rattle.std.specs.List.{list_any};
-ghost use Rattle.mj_queue.specs.Settling.{is_of_client, pair};
+ghost use Rattle.mj_queue.specs.Offers.{offer_of};
+ghost use Rattle.mj_queue.specs.Settling.{Pair, pair, without_ticket};
+ghost use Rattle.mj_keeper.specs.Standing.{told_on};
 ghost use Rattle.mj_machine.specs.Acts.{quiet};
 ghost use Rattle.mj_machine.specs.Connections;
 ghost use Rattle.mj_machine.specs.Connections.{connection_of};
+ghost use Rattle.mj_machine.specs.DiskActs.{clients_alone};
 ghost use Rattle.mj_machine.specs.EventStep.{opened, reports};
 ghost use Rattle.mj_machine.specs.Leaving;
 ghost use Rattle.mj_machine.specs.Leaving.{becomes, ends, goes, removed};
 ghost use Rattle.mj_machine.specs.MachineState.{start_state};
 ghost use Rattle.mj_machine.specs.MessageStep;
 ghost use Rattle.mj_machine.specs.MessageStep.{queues, registration};
-ghost use Rattle.mj_machine.specs.Pairing.{bodiless, marks, settles, waits};
-ghost use Rattle.mj_machine.specs.Sending.{sends};
+ghost use Rattle.mj_machine.specs.Pairing.{bodiless, hands, marks, waits};
+ghost use Rattle.mj_machine.specs.Sending.{order_text, address, sends};
+ghost use Rattle.mj_machine.specs.StoreState.{ticket_request, waiting_tickets};
 ghost use Rattle.mj_machine.specs.TickStep.{at_moment, due_numbers, expires, is_unspoken, silent_numbers};
-ghost use Rattle.mj_routing.specs.RoutingState.{Does, HandsOver, Turns};
+ghost use Rattle.mj_routing.specs.RoutingState.{Does, Gives, HandsOver};
 ghost use Rattle.mj_routing.specs.Places.{standing_of};
-ghost use Rattle.mj_routing.specs.Storeless.{OfClients, alone, untold};
+ghost use Rattle.mj_routing.specs.Returning.{BringsNothing, free_request, put_last};
 ghost use Rattle.mj_machine.specs.declared.connection.Role;
+ghost use Rattle.mj_worker_cmd.specs.declared.command.OrderAct.TheVariants as order;
 
 use crate::connections::{self, Standing, Verdict};
-use crate::text::{address_of, order_octets};
+use crate::services::is_titanic;
+use crate::text::{address_of, order_octets, ticket_request};
 use crate::{deadlines, held};
 use mj_base::{Frames, Limits, Name, NoMemory, Octets, Out, Reason};
+use mj_keeper::Keeper;
 use mj_lease::Leases;
 use mj_machine::{Connection, Held, Lengths, Registration, Role, Voice};
-use mj_queue::{AskFault, Hall, Origin, Request};
+use mj_queue::{AskFault, Hall, Offer, Origin, Request};
+use mj_store::Store;
 use mj_worker_cmd::OrderAct;
 use std::alloc::Global;
 use std::marker::Model;
@@ -87,40 +95,59 @@ impl Routing {
         Ok(number)
     }
 
-    /// Takes a connection out, with all that waits or is queued for it.
-    #[tactic(auto, using(crate::proofs::StorelessLemmas::given_back_untold))]
-    pub fn remove(&mut self, number: u64)
-        ensures { self.new ≡ removed number untold self.old }
+    /// Takes a connection out, with all that waits or is queued for it. A ticket's request that it holds and that still
+    /// pends goes to the queue's end.
+    #[tactic(auto, using(crate::proofs::ReturningLemmas::returning))]
+    pub fn remove(&mut self, number: u64, tickets: &Keeper) -> Result<(), NoMemory>
+        ensures state { OnOk result (self.new ≡ removed number (told_on tickets.now.shelf) self.old) }
+        ensures nothing { BringsNothing (told_on tickets.now.shelf) number self.old → IsOk result }
+        ensures settled { BringsNothing (told_on tickets.now.shelf) number self.old → pair self.old.waiting self.old.queue ≡ None
+            → OnOk result (pair self.new.waiting self.new.queue ≡ None) }
     {
         self.hall.drop_worker(number);
         self.hall.drop_client(number);
-        held::drop_held(&mut self.held, number);
+        let back = held::release(&mut self.held, number, tickets);
         connections::cut_off(&mut self.connections, number);
         deadlines::forget(&mut self.leases, number);
+        self.queue_again(back)
     }
 
-    /// Passes a connection over from now on.
-    #[tactic(auto, using(crate::proofs::StorelessLemmas::given_back_untold))]
-    pub fn go(&mut self, number: u64)
-        ensures { self.new ≡ goes number untold self.old }
+    /// Passes a connection over from now on. What becomes of the request that it holds is as at `remove`.
+    #[tactic(auto, using(crate::proofs::ReturningLemmas::returning))]
+    pub fn go(&mut self, number: u64, tickets: &Keeper) -> Result<(), NoMemory>
+        ensures state { OnOk result (self.new ≡ goes number (told_on tickets.now.shelf) self.old) }
+        ensures nothing { BringsNothing (told_on tickets.now.shelf) number self.old → IsOk result }
     {
         self.hall.drop_worker(number);
         self.hall.drop_client(number);
-        held::drop_held(&mut self.held, number);
+        let back = held::release(&mut self.held, number, tickets);
         connections::set_role(&mut self.connections, number, Role::Gone);
         deadlines::forget(&mut self.leases, number);
+        self.queue_again(back)
     }
 
-    /// Ends a worker's lease: it may register anew.
-    #[tactic(auto, using(crate::proofs::StorelessLemmas::given_back_untold))]
-    pub fn expire(&mut self, number: u64)
-        ensures { self.new ≡ expires number untold self.old }
+    /// Ends a worker's lease: it may register anew. What becomes of the request that it holds is as at `remove`.
+    #[tactic(auto, using(crate::proofs::ReturningLemmas::returning))]
+    pub fn expire(&mut self, number: u64, tickets: &Keeper) -> Result<(), NoMemory>
+        ensures state { OnOk result (self.new ≡ expires number (told_on tickets.now.shelf) self.old) }
+        ensures nothing { BringsNothing (told_on tickets.now.shelf) number self.old → IsOk result }
     {
         self.hall.drop_worker(number);
         self.hall.drop_client(number);
-        held::drop_held(&mut self.held, number);
+        let back = held::release(&mut self.held, number, tickets);
         connections::set_role(&mut self.connections, number, Role::Fresh);
         deadlines::forget(&mut self.leases, number);
+        self.queue_again(back)
+    }
+
+    fn queue_again(&mut self, back: Option<Request>) -> Result<(), NoMemory>
+        ensures state { OnOk result (self.new ≡ record self.old { queue = put_last back self.old.queue }) }
+        ensures nothing { back ≡ None → IsOk result }
+    {
+        match back {
+            None => Ok(()),
+            Some(request) => self.hall.queue(request),
+        }
     }
 
     /// The connection has asked.
@@ -178,23 +205,32 @@ impl Routing {
         number: u64,
         reason: Reason,
         at: u64,
+        tickets: &Keeper,
         outs: &mut Vec<Out>,
     ) -> Result<(), NoMemory>
-        ensures { OnOk result (Does self.new outs.old.items outs.new.items (ends lane number reason at untold self.old)) }
+        ensures { OnOk result (Does self.new outs.old.items outs.new.items (ends lane number reason at (told_on tickets.now.shelf) self.old)) }
     {
-        self.remove(number);
+        self.remove(number, tickets)?;
         outs.push(Out::End(lane, reason, at))?;
         Ok(())
     }
 
     /// Sends a piece, or ends the connection of a peer that is too slow.
-    pub fn send(&mut self, number: u64, piece: Octets, outs: &mut Vec<Out>) -> Result<(), NoMemory>
-        ensures { OnOk result (Does self.new outs.old.items outs.new.items (sends number piece untold self.old)) }
+    pub fn send(
+        &mut self,
+        number: u64,
+        piece: Octets,
+        tickets: &Keeper,
+        outs: &mut Vec<Out>,
+    ) -> Result<(), NoMemory>
+        ensures { OnOk result (Does self.new outs.old.items outs.new.items (sends number piece (told_on tickets.now.shelf) self.old)) }
     {
         let octets = piece.len() as u64;
         match connections::judge(&self.limits, &self.connections, number, octets) {
             Verdict::Nobody => Ok(()),
-            Verdict::Slow(lane, waiting) => self.end(lane, number, Reason::Slow, waiting, outs),
+            Verdict::Slow(lane, waiting) => {
+                self.end(lane, number, Reason::Slow, waiting, tickets, outs)
+            }
             Verdict::Sends(lane) => {
                 connections::note_sent(&mut self.connections, number, self.moment, octets)?;
                 outs.push(Out::Piece(lane, piece))?;
@@ -259,18 +295,16 @@ impl Routing {
 
     /// A copy of the request that this worker holds.
     pub fn held_by(&self, worker: u64) -> Result<Option<Request>, NoMemory>
-        ensures request { IfOk result (λ request. request ≡ Leaving.held_by worker self.now.held) }
-        ensures client { IfOk result (λ request. IfSome request (λ held. is_of_client held.origin ≡ true)) }
+        ensures { IfOk result (λ request. request ≡ Leaving.held_by worker self.now.held) }
     {
         held::held_by(&self.held, worker)
     }
 
-    /// Whether somebody waits for the service of this name or holds a request for it.
-    #[tactic(auto, using(crate::proofs::StorelessLemmas::or_false))]
-    pub fn is_known(&self, name: &Name) -> bool
-        ensures { result ≡ MessageStep.is_known untold (Some name.now) self.now }
+    /// Whether somebody waits for the service of this name or holds a request for it, or it is one of the store's.
+    pub fn is_known(&self, name: &Name, tickets: &Keeper) -> bool
+        ensures { result ≡ MessageStep.is_known (told_on tickets.now.shelf) (Some name.now) self.now }
     {
-        self.hall.has_worker(name)
+        self.hall.has_worker(name) || (tickets.is_stored() && is_titanic(name))
     }
 
     /// Appends the workers whose lease has ended, by number.
@@ -309,10 +343,10 @@ impl Routing {
         lane: u32,
         number: u64,
         request: Request,
+        tickets: &Keeper,
         outs: &mut Vec<Out>,
     ) -> Result<(), NoMemory>
-        requires client { is_of_client request.origin ≡ true }
-        ensures { OnOk result (Does self.new outs.old.items outs.new.items (queues lane number request untold self.old)) }
+        ensures { OnOk result (Does self.new outs.old.items outs.new.items (queues lane number request (told_on tickets.now.shelf) self.old)) }
     {
         match self.hall.ask(request) {
             Ok(()) => {
@@ -321,10 +355,62 @@ impl Routing {
             }
             Err(AskFault::QueueFull(_request)) => {
                 let queued = self.hall.queued();
-                self.end(lane, number, Reason::QueueFull, queued, outs)
+                self.end(lane, number, Reason::QueueFull, queued, tickets, outs)
             }
             Err(AskFault::NoMemory(_request)) => Err(NoMemory),
         }
+    }
+
+    /// Queues the request of this ticket for this service.
+    pub fn queue_ticket(
+        &mut self,
+        alloc: Global,
+        number: u64,
+        service: &Name,
+    ) -> Result<(), NoMemory>
+        ensures { OnOk result (self.new ≡ record self.old { queue = self.old.queue ++ ticket_request number service.now ∷ [] }) }
+    {
+        self.hall.queue(ticket_request(alloc, number, service))
+    }
+
+    /// Takes out what this ticket has queued.
+    pub fn drop_ticket(&mut self, number: u64)
+        ensures { self.new ≡ record self.old { queue = without_ticket number self.old.queue } }
+    {
+        self.hall.drop_ticket(number);
+    }
+
+    /// Takes out what tickets have queued.
+    pub fn drop_tickets(&mut self)
+        ensures { self.new ≡ clients_alone self.old }
+    {
+        self.hall.drop_tickets();
+    }
+
+    /// Queues the requests of all pending tickets that no worker holds, by number.
+    pub fn queue_tickets(&mut self, alloc: Global, store: &Store) -> Result<(), NoMemory>
+        ensures { OnOk result (self.new ≡ record self.old { queue = self.old.queue ++ waiting_tickets self.old.held store.now.index }) }
+    {
+        let end = store.next();
+        let mut after = 0;
+        while after < end {
+            let Some((number, service)) = store.pending(after) else {
+                return Ok(());
+            };
+            self.queue_free(alloc, number, service)?;
+            after = number;
+        }
+        Ok(())
+    }
+
+    /// Queues the request of this ticket, unless a worker holds it.
+    fn queue_free(&mut self, alloc: Global, number: u64, service: &Name) -> Result<(), NoMemory>
+        ensures { OnOk result (self.new ≡ record self.old { queue = put_last (free_request self.old.held number service.now) self.old.queue }) }
+    {
+        if held::holds_ticket(&self.held, number) {
+            return Ok(());
+        }
+        self.queue_ticket(alloc, number, service)
     }
 
     /// A worker with this registration, which waits.
@@ -385,13 +471,57 @@ impl Routing {
         }))
     }
 
-    /// Sends a request to its worker; false where no queued request has a waiting worker.
-    pub fn dispatch(&mut self, alloc: Global, outs: &mut Vec<Out>) -> Result<bool, NoMemory>
-        ensures { IfOk result (λ more. Turns self.old self.new outs.old.items outs.new.items more) }
+    /// Which queued request the next waiting worker would get, the one that was queued first of those that some worker
+    /// waits for. None where there is none.
+    pub fn offer(&self) -> Option<Offer>
+        ensures { result ≡ option_map offer_of (pair self.now.waiting self.now.queue) }
+    {
+        self.hall.offer()
+    }
+
+    /// Sends the offered request to its worker, with the body that was queued.
+    pub fn dispatch(
+        &mut self,
+        alloc: Global,
+        tickets: &Keeper,
+        outs: &mut Vec<Out>,
+    ) -> Result<(), NoMemory>
+        requires { is_some (pair self.old.waiting self.old.queue) ≡ true }
+        ensures { OnOk result (Gives self.old (λ p. Does self.new outs.old.items outs.new.items (hands p.request.body p (told_on tickets.now.shelf) self.old))) }
     {
         let Some(handed) = self.hand_over(alloc)? else {
-            return Ok(false);
+            unreachable!();
         };
+        self.order(alloc, handed, tickets, outs)
+    }
+
+    /// Sends the offered request to its worker, with this body.
+    pub fn hand(
+        &mut self,
+        alloc: Global,
+        body: Frames,
+        tickets: &Keeper,
+        outs: &mut Vec<Out>,
+    ) -> Result<(), NoMemory>
+        requires { is_some (pair self.old.waiting self.old.queue) ≡ true }
+        ensures { OnOk result (Gives self.old (λ p. Does self.new outs.old.items outs.new.items (hands body p (told_on tickets.now.shelf) self.old))) }
+    {
+        let Some(mut handed) = self.hand_over(alloc)? else {
+            unreachable!();
+        };
+        handed.body = body;
+        self.order(alloc, handed, tickets, outs)
+    }
+
+    fn order(
+        &mut self,
+        alloc: Global,
+        handed: Handed,
+        tickets: &Keeper,
+        outs: &mut Vec<Out>,
+    ) -> Result<(), NoMemory>
+        ensures { OnOk result (Does self.new outs.old.items outs.new.items (sends handed.worker (order_text handed.voice (order.Request (address handed.origin) handed.body)) (told_on tickets.now.shelf) self.old)) }
+    {
         let mut address = Octets::new(alloc);
         address.push_all(address_of(handed.origin).as_slice())?;
         let act = OrderAct::Request {
@@ -399,27 +529,7 @@ impl Routing {
             body: handed.body,
         };
         let order = order_octets(alloc, handed.voice, act)?;
-        self.send(handed.worker, order, outs)?;
-        Ok(true)
-    }
-
-    /// Sends requests to workers as long as a queued one has a waiting worker. Where none has, no memory is taken.
-    pub fn settle(&mut self, alloc: Global, outs: &mut Vec<Out>) -> Result<(), NoMemory>
-        ensures done { OnOk result (Does (alone self.new) outs.old.items outs.new.items (settles (alone self.old))) }
-        ensures settled { OnOk result (pair self.new.waiting self.new.queue ≡ None) }
-        ensures idle { pair self.old.waiting self.old.queue ≡ None → IsOk result }
-    {
-        while self.has_pair() {
-            self.dispatch(alloc, outs)?;
-        }
-        Ok(())
-    }
-
-    fn has_pair(&self) -> bool
-        ensures pair { result ≡ is_some (pair self.now.waiting self.now.queue) }
-        ensures clients { OfClients self.now.queue }
-    {
-        self.hall.has_pair()
+        self.send(handed.worker, order, tickets, outs)
     }
 }
 

@@ -4,8 +4,9 @@ ghost use Rattle.std.specs.Int.{to_be_bytes, w64};
 ghost use Rattle.std.specs.Str.{bytes_eq};
 ghost use Rattle.mj_frame.specs.FrameSpelling.{message_octets};
 ghost use Rattle.mj_machine.specs.Sending.{address, order_text, reply_text};
+ghost use Rattle.mj_machine.specs.StoreState;
 
-use mj_base::{Frames, NoMemory, Octets};
+use mj_base::{Frames, Name, NoMemory, Octets, Version};
 use mj_client_cmd::{ClientReply, write_reply};
 use mj_frame::write_message;
 use mj_machine::Voice;
@@ -44,6 +45,19 @@ pub fn reply_octets(
     };
     let message = write_reply(alloc, &reply)?;
     octets_of(alloc, &message)
+}
+
+/// The request of this ticket, whose body is in the file.
+pub fn ticket_request(alloc: Global, number: u64, service: &Name) -> Request
+    ensures { result ≡ StoreState.ticket_request number service.now }
+{
+    Request {
+        origin: Origin::Ticket(number),
+        service: service.copy(),
+        version: Version::One,
+        lead: true,
+        body: Frames::new(alloc),
+    }
 }
 
 fn octets_of(alloc: Global, message: &Frames) -> Result<Octets, NoMemory>

@@ -12,13 +12,13 @@ use Rattle.mj_machine.specs.Acts.{quiet}
 use Rattle.mj_machine.specs.DiskActs.{appending, clients_alone, reading}
 use Rattle.mj_titanic.specs.declared.fault.ActFault.{ActFault}
 use Rattle.mj_keeper.specs.declared.keeper.Shelf.TheVariants as shelves
-use Rattle.mj_titanic.specs.Acting.{Did, IsRefused, Parts, Stopped, around}
+use Rattle.mj_titanic.specs.Acting.{Did, IsActFault, IsRefused, Parts, Stopped, around}
 use Rattle.mj_titanic.proofs.Attempts.{attempt-did, attempt-failed, attempt-stopped}
 
 module _ {D : Type 0} (disks : Ghosts D) (cmd : TicketCmd) (old : Parts) (held : StoreValue) (disk after : D) (is : old.keeper.shelf ≡ shelves.Open held)
     (leaves : LeavesWithOrWithout disks (cmd ∷ []) held disk after) (count : disks.faults disk ≤ disks.faults after) where
-  pub append-stopped : (fault : ActFault) → (IsRefused fault → disks.told disk ≡ None) → Stopped disks fault old disk after (around (appending cmd quiet quiet))
-  append-stopped fault refused = attempt-stopped (Some cmd) (λ cs. cs ++ cmd ∷ []) disks old held disk after is (λ cs. refl) leaves count fault refused
+  pub append-stopped : (fault : ActFault) → IsActFault fault → (IsRefused fault → disks.told disk ≡ None) → Stopped disks fault old disk after (around (appending cmd quiet quiet))
+  append-stopped fault kind refused = attempt-stopped (Some cmd) (λ cs. cs ++ cmd ∷ []) disks old held disk after is (λ cs. refl) leaves count fault kind refused
 
   pub append-did : (new : Parts) (next : StoreValue) (before outs : List Out) → new.acts ≡ old.acts + 1 → is_some (disks.told after) ≡ is_some (disks.told disk) → new.core ≡ old.core
       → new.keeper ≡ record old.keeper { shelf = shelves.Open next } → next.limits ≡ held.limits → Adds disks cmd held disk next after → outs ≡ before
@@ -35,8 +35,8 @@ module _ {D : Type 0} (disks : Ghosts D) (cmd : TicketCmd) (old : Parts) (held :
 
 module _ {D : Type 0} (disks : Ghosts D) (old : Parts) (held : StoreValue) (disk after : D) (is : old.keeper.shelf ≡ shelves.Open held)
     (leaves : LeavesWithOrWithout disks [] held disk after) (count : disks.faults disk ≤ disks.faults after) where
-  pub read-stopped : (fault : ActFault) → (IsRefused fault → disks.told disk ≡ None) → Stopped disks fault old disk after (around (reading quiet quiet))
-  read-stopped fault refused = attempt-stopped None (λ cs. cs) disks old held disk after is append-nil leaves count fault refused
+  pub read-stopped : (fault : ActFault) → IsActFault fault → (IsRefused fault → disks.told disk ≡ None) → Stopped disks fault old disk after (around (reading quiet quiet))
+  read-stopped fault kind refused = attempt-stopped None (λ cs. cs) disks old held disk after is append-nil leaves count fault kind refused
 
   pub read-did : (new : Parts) (next : StoreValue) (before outs : List Out) → new.acts ≡ old.acts + 1 → is_some (disks.told after) ≡ is_some (disks.told disk) → new.core ≡ old.core
       → new.keeper ≡ record old.keeper { shelf = shelves.Open next } → next.limits ≡ held.limits → Keeps disks held disk next after → outs ≡ before

@@ -23,7 +23,7 @@ use Rattle.mj_keeper.specs.declared.keeper.Keeper.{Keeper}
 use Rattle.mj_keeper.specs.declared.keeper.Shelf.{Shelf}
 use Rattle.mj_keeper.specs.declared.keeper.Shelf.TheVariants as shelves
 use Rattle.mj_keeper.specs.Standing.{GoesOn, IsOneOf, IsSound, MayLeave, Sees, StandsBy}
-use Rattle.mj_titanic.specs.Acting.{Agree, AreOf, Did, Ends, IsAt, IsRefused, Parts, Stopped, around}
+use Rattle.mj_titanic.specs.Acting.{Agree, AreOf, Did, Ends, IsActFault, IsAt, IsRefused, Parts, Stopped, around}
 use Rattle.mj_titanic.proofs.Composing.{one-of-first, one-of-second}
 
 -- ---- notes of one act
@@ -111,13 +111,14 @@ module _ (doubt : Option TicketCmd) (grown : List TicketCmd → List TicketCmd) 
 
     -- given up before its end is known
     pub attempt-stopped : ((cs : List TicketCmd) → cs ++ doubted (Shut doubt) ≡ grown cs) → LeavesWithOrWithout disks (doubted (Shut doubt)) held disk after → disks.faults disk ≤ disks.faults after
-        → (fault : ActFault) → (IsRefused fault → disks.told disk ≡ None) → Stopped disks fault old disk after (around attempts)
-    attempt-stopped fits leaves count fault refused = record {
+        → (fault : ActFault) → IsActFault fault → (IsRefused fault → disks.told disk ≡ None) → Stopped disks fault old disk after (around attempts)
+    attempt-stopped fits leaves count fault kind refused = record {
       some = [];
       upto = old.acts;
       given = none-given old.acts old.acts (omega arith);
       crash = λ w at agree. attempt-goes fits leaves w at;
       count = count;
+      kind = kind;
       refused = refused;
       plain = λ absent. absurd (let no : shelves.Absent ≡ shelves.Open held = sym absent ∙ is in cc no);
     }

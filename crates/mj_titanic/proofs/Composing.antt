@@ -16,7 +16,7 @@ use Rattle.mj_machine.specs.Acts.{Doing, ◌then◌}
 use Rattle.mj_machine.specs.DiskActs.{notes_in, says_found, says_shut}
 use Rattle.mj_titanic.specs.declared.fault.ActFault.{ActFault}
 use Rattle.mj_keeper.specs.Standing.{GoesOn, IsOneOf}
-use Rattle.mj_titanic.specs.Acting.{Agree, AreOf, Did, Ends, IsAt, IsRefused, Parts, RoseBy, Stopped, shut_count}
+use Rattle.mj_titanic.specs.Acting.{Agree, AreOf, Did, Ends, IsActFault, IsAt, IsRefused, Parts, RoseBy, Stopped, shut_count}
 
 -- ---- notes
 
@@ -163,6 +163,7 @@ module _ {D : Type 0} (disks : Ghosts D) where
           (agree-second old.acts mid.acts two.upto (notes_in one.added) two.some one.given two.given w.notes agree) in
           goes-then disk between after (s w) (t (f w).0) (one.crash w at front) (two.crash (f w).0 e.at rest);
       count = omega (arith, one.count.0, two.count);
+      kind = two.kind;
       refused = λ is. one.silent (two.refused is);
       plain = λ absent. let p = one.plain absent in two.plain p.0 ∙ p.1;
     }
@@ -176,6 +177,7 @@ module _ {D : Type 0} (disks : Ghosts D) where
     given = one.given;
     crash = λ w at agree. goes-more disk after (s w) (t w) (one.crash w at agree);
     count = one.count;
+    kind = one.kind;
     refused = one.refused;
     plain = one.plain;
   }
@@ -203,6 +205,7 @@ module _ {D : Type 0} (disks : Ghosts D) where
     given = stopped.given;
     crash = λ w at agree. subst (λ (ss : List Store). GoesOn disks disk after ss) (stores w at) (stopped.crash w at agree);
     count = stopped.count;
+    kind = stopped.kind;
     refused = stopped.refused;
     plain = stopped.plain;
   }
@@ -221,13 +224,19 @@ module _ {D : Type 0} (disks : Ghosts D) where
   }
 
   -- it ended before anything was done
-  pub stopped-still : (fault : ActFault) (old : Parts) (disk : D) (stores : Whole → List Store) → (IsRefused fault → disks.told disk ≡ None) → Stopped disks fault old disk disk stores
-  stopped-still fault old disk stores refused = record {
+  pub stopped-still : (fault : ActFault) (old : Parts) (disk : D) (stores : Whole → List Store) → IsActFault fault → (IsRefused fault → disks.told disk ≡ None) → Stopped disks fault old disk disk stores
+  stopped-still fault old disk stores kind refused = record {
     some = [];
     upto = old.acts;
     given = record { onward = omega arith; shut = λ k says. absurd (cc says); found = λ k says. absurd (cc says) };
     crash = λ w at agree. goes-more disk disk [] (stores w) (goes-nowhere disk disk refl (omega arith));
     count = omega arith;
+    kind = kind;
     refused = refused;
     plain = λ absent. refl;
   }
+
+  -- and the disk was left as it was
+  pub stopped-unmoved : (fault : ActFault) (old : Parts) (disk after : D) (stores : Whole → List Store) → after ≡ disk → IsActFault fault → (IsRefused fault → disks.told disk ≡ None) → Stopped disks fault old disk after stores
+  stopped-unmoved fault old disk after stores same kind refused =
+      subst (λ (d : D). Stopped disks fault old disk d stores) (sym same) (stopped-still fault old disk stores kind refused)

@@ -3,3 +3,9 @@ pub mod Attempts
 pub mod Appends
 pub mod Alike
 pub mod Bodies
+pub mod Accepts
+pub mod Openings
+pub mod Telling
+pub mod Continuing
+pub mod Rowing
+pub mod Routed

@@ -6,6 +6,7 @@ use Rattle.mj_base.specs.declared.event.Note.TheVariants as notes
 use Rattle.mj_base.specs.declared.event.Out.{Out}
 use Rattle.mj_disk.specs.declared.disk.Disk.{Ghosts}
 use Rattle.mj_machine.specs.StoreState.{Store}
+use Rattle.mj_store.specs.Opening.{IsRefusal}
 use Rattle.mj_machine.specs.MachineState.{Act, State, Whole}
 use Rattle.mj_machine.specs.Acts.{Doing}
 use Rattle.mj_machine.specs.DiskActs.{clients_alone, notes_in, says_found, says_shut}
@@ -15,6 +16,7 @@ use Rattle.mj_titanic.specs.declared.fault.ActFault.TheVariants.{NoMemory, Refus
 use Rattle.mj_keeper.specs.declared.keeper.Keeper.{Keeper}
 use Rattle.mj_keeper.specs.declared.keeper.Shelf.TheVariants.{Absent}
 use Rattle.mj_titanic.specs.declared.acts.Keeping.{Keeping}
+use Rattle.mj_titanic.specs.declared.parts.Parts as declared
 
 -- ---- where an event stands
 
@@ -26,6 +28,9 @@ pub record Parts : Type 0 where
 
 abbrev pub parts : State → Keeping → Parts
 parts core keeping = record { core = core; keeper = keeping.keeper; acts = keeping.acts }
+
+abbrev pub seen : declared.Parts → Parts
+seen p = parts p.routing p.keeping
 
 pub record IsAt {D : Type 0} (disks : Ghosts D) (old : Parts) (disk : D) (w : Whole) : Type 0 where
   pub routing : old.core ≡ w.routing
@@ -79,6 +84,11 @@ abbrev pub IsRefused : ActFault → Type 0
 IsRefused NoMemory = ⊥
 IsRefused (Refused fault) = Unit {0}
 
+-- a file is refused for what is in it
+abbrev pub IsActFault : ActFault → Type 0
+IsActFault NoMemory = Unit {0}
+IsActFault (Refused fault) = IsRefusal fault
+
 -- it ended early, in front of the act of this number; a refusal never comes of a disk that tells what it holds
 pub record Stopped {D : Type 0} (disks : Ghosts D) (fault : ActFault) (old : Parts) (disk after : D) (stores : Whole → List Store) : Type 0 where
   pub some : List Note
@@ -86,6 +96,7 @@ pub record Stopped {D : Type 0} (disks : Ghosts D) (fault : ActFault) (old : Par
   pub given : AreOf old.acts upto some
   pub crash : (w : Whole) → IsAt disks old disk w → Agree old.acts upto w.notes some → GoesOn disks disk after (stores w)
   pub count : disks.faults disk ≤ disks.faults after
+  pub kind : IsActFault fault
   pub refused : IsRefused fault → disks.told disk ≡ None
   pub plain : old.keeper.shelf ≡ Absent → disks.told after ≡ disks.told disk
 

@@ -179,7 +179,7 @@ impl Keeping {
     }
 
     /// The act has failed, and the store is shut; the next act has this number.
-    fn shut(&mut self, end: u64, next: u32, outs: &mut Vec<Out>) -> Result<(), NoMemory>
+    pub(crate) fn shut(&mut self, end: u64, next: u32, outs: &mut Vec<Out>) -> Result<(), NoMemory>
         ensures keeper { OnOk result (self.new.keeper ≡ record self.old.keeper { shelf = shelves.Shut end }) }
         ensures acts { OnOk result (self.new.acts ≡ next) }
         ensures note { OnOk result (outs.new.items ≡ outs.old.items ++ out.Note (notes.Shut self.old.acts) ∷ []) }

@@ -6,5 +6,5 @@ use Rattle.mj_routing.proofs.routing.Routing.expire.Goals as goal
 pub invariant_of-self : goal.invariant_of-self
 invariant_of-self c =
     kept-left c.self.inside.limits c.self.inside.moment c.self.inside.next c.self.inside.connections.items c.self.inside.hall c.self.inside.held.items c.self.inside.leases.leases c.self.invariant
-    c.set_role.new.connections.items c.drop_worker.new.self c.drop_client.new.self c.drop_held.new.held.items c.forget.new.leases.leases c.args.number Fresh
-    (λ h. refl) (c.drop_worker.ensures, c.drop_client.ensures) c.drop_held.ensures c.set_role.ensures c.forget.ensures
+    c.set_role.new.connections.items c.drop_worker.new.self c.drop_client.new.self c.release-back.new.held.items c.forget.new.leases.leases c.args.number Fresh
+    (λ h. refl) (c.drop_worker.ensures, c.drop_client.ensures) c.release-back.ensures.held c.set_role.ensures c.forget.ensures

@@ -15,7 +15,7 @@ use Rattle.mj_titanic.proofs.Bodies.{body-is}
 use Rattle.mj_titanic.proofs.acts.Keeping.read_open.Goals as goal
 
 pub returns-in_default-checked_add-clause-stopped : goal.returns-in_default-checked_add-clause-stopped
-returns-in_default-checked_add-clause-stopped g c = λ core. stopped-still g.D.Disk NoMemory (parts core c.args.self.now) c.args.disk.now _ (λ refused. absurd refused)
+returns-in_default-checked_add-clause-stopped g c = λ core. stopped-still g.D.Disk NoMemory (parts core c.args.self.now) c.args.disk.now _ tt (λ refused. absurd refused)
 
 pub returns-in-Ok-clause-done : goal.returns-in-Ok-clause-done
 returns-in-Ok-clause-done g c = λ core.
@@ -24,7 +24,7 @@ returns-in-Ok-clause-done g c = λ core.
 
 pub returns-in-Err-NoMemory-clause-stopped : goal.returns-in-Err-NoMemory-clause-stopped
 returns-in-Err-NoMemory-clause-stopped g c = λ core.
-    read-stopped g.D.Disk (parts core c.args.self.now) c.in-Open.store c.args.disk.now c.body.new.disk c.in-Open.is c.body.ensures.crash c.body.ensures.count NoMemory (λ refused. absurd refused)
+    read-stopped g.D.Disk (parts core c.args.self.now) c.in-Open.store c.args.disk.now c.body.new.disk c.in-Open.is c.body.ensures.crash c.body.ensures.count NoMemory tt (λ refused. absurd refused)
 
 pub returns-in-Ok-shut-clause-done : goal.returns-in-Ok-shut-clause-done
 returns-in-Ok-shut-clause-done g c = λ core.
@@ -39,7 +39,7 @@ returns-in-Ok-shut-clause-sound g c =
 
 pub returns-in-Err-clause-stopped : goal.returns-in-Err-clause-stopped
 returns-in-Err-clause-stopped g c = λ core.
-    read-stopped g.D.Disk (parts core c.args.self.now) c.in-Open.store c.args.disk.now c.body.new.disk c.in-Open.is c.body.ensures.crash c.body.ensures.count NoMemory (λ refused. absurd refused)
+    read-stopped g.D.Disk (parts core c.args.self.now) c.in-Open.store c.args.disk.now c.body.new.disk c.in-Open.is c.body.ensures.crash c.body.ensures.count NoMemory tt (λ refused. absurd refused)
 
 pub returns-in-Ok-clause-body : goal.returns-in-Ok-clause-body
 returns-in-Ok-clause-body g c = body-is g.D.Disk c.args.number c.args.self.now.keeper c.in-Open.store c.args.disk.now c.in-Ok.frames c.in-Open.is (subst (λ (s : Shelf). IsOpenWith (λ (held : StoreValue). ticket_of c.args.number held.index ≢ None) s) c.in-Open.is c.requires.open) c.in-Ok.ensures.body
@@ -47,4 +47,4 @@ returns-in-Ok-clause-body g c = body-is g.D.Disk c.args.number c.args.self.now.k
 pub returns-in-Err-Damaged-clause-stopped : goal.returns-in-Err-Damaged-clause-stopped
 returns-in-Err-Damaged-clause-stopped g c = λ core.
     let none = c.in-Err-Damaged.ensures.whole (subst IsDamage (sym c.in-Err-Damaged.field-0-is) tt) in
-    read-stopped g.D.Disk (parts core c.args.self.now) c.in-Open.store c.args.disk.now c.body.new.disk c.in-Open.is c.body.ensures.crash c.body.ensures.count (Refused _) (λ refused. tells-none (g.D.Disk.told c.args.disk.now) none)
+    read-stopped g.D.Disk (parts core c.args.self.now) c.in-Open.store c.args.disk.now c.body.new.disk c.in-Open.is c.body.ensures.crash c.body.ensures.count (Refused _) tt (λ refused. tells-none (g.D.Disk.told c.args.disk.now) none)

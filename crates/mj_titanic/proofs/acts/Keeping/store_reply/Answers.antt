@@ -10,7 +10,7 @@ use Rattle.mj_titanic.proofs.Appends.{append-did, append-failed, append-stopped}
 use Rattle.mj_titanic.proofs.acts.Keeping.store_reply.Goals as goal
 
 pub returns-in_default-checked_add-clause-stopped : goal.returns-in_default-checked_add-clause-stopped
-returns-in_default-checked_add-clause-stopped g c = λ core. stopped-still g.D.Disk NoMemory (parts core c.args.self.now) c.args.disk.now _ (λ refused. absurd refused)
+returns-in_default-checked_add-clause-stopped g c = λ core. stopped-still g.D.Disk NoMemory (parts core c.args.self.now) c.args.disk.now _ tt (λ refused. absurd refused)
 
 pub returns-in-Ok-clause-done : goal.returns-in-Ok-clause-done
 returns-in-Ok-clause-done g c = λ core.
@@ -23,7 +23,7 @@ returns-in-Ok-clause-sound g c =
 
 pub returns-in-Err-NoMemory-clause-stopped : goal.returns-in-Err-NoMemory-clause-stopped
 returns-in-Err-NoMemory-clause-stopped g c = λ core.
-    append-stopped g.D.Disk (cmds.Store c.args.number c.args.body.now) (parts core c.args.self.now) c.in-Open.store c.args.disk.now c.store_reply.new.disk c.in-Open.is c.store_reply.ensures.crash c.store_reply.ensures.count NoMemory (λ refused. absurd refused)
+    append-stopped g.D.Disk (cmds.Store c.args.number c.args.body.now) (parts core c.args.self.now) c.in-Open.store c.args.disk.now c.store_reply.new.disk c.in-Open.is c.store_reply.ensures.crash c.store_reply.ensures.count NoMemory tt (λ refused. absurd refused)
 
 pub returns-in-Ok-shut-clause-done : goal.returns-in-Ok-shut-clause-done
 returns-in-Ok-shut-clause-done g c = λ core.
@@ -38,4 +38,4 @@ returns-in-Ok-shut-clause-sound g c =
 
 pub returns-in-Err-clause-stopped : goal.returns-in-Err-clause-stopped
 returns-in-Err-clause-stopped g c = λ core.
-    append-stopped g.D.Disk (cmds.Store c.args.number c.args.body.now) (parts core c.args.self.now) c.in-Open.store c.args.disk.now c.store_reply.new.disk c.in-Open.is c.store_reply.ensures.crash c.store_reply.ensures.count NoMemory (λ refused. absurd refused)
+    append-stopped g.D.Disk (cmds.Store c.args.number c.args.body.now) (parts core c.args.self.now) c.in-Open.store c.args.disk.now c.store_reply.new.disk c.in-Open.is c.store_reply.ensures.crash c.store_reply.ensures.count NoMemory tt (λ refused. absurd refused)
