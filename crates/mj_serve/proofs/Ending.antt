@@ -51,12 +51,12 @@ module _ {P D : Type 0} (stand : P → P → List Event → List Entry → Type 
       → Ran stand disks origin began limits (start_with limits no_store) ports disk broker summary → ServedWithout stand disks origin began limits ports disk summary
   served-without broker ports disk summary reads ran =
       let run = served-of stand disks origin began limits no_store (inl refl) ports disk broker summary reads ran in
-      (run, keeps-nothing limits run.happened)
+      (run, keeps-nothing limits run.happened run.ran.notes)
 
   pub ended-without : (ports : P) (disk : D) → RanOut stand disks origin began limits (start_with limits no_store) ports disk → EndedWithout stand disks origin began limits ports disk
   ended-without ports disk ran =
       let run = ended-of stand disks origin began limits no_store (inl refl) ports disk ran in
-      (run, keeps-nothing limits run.happened)
+      (run, keeps-nothing limits run.happened run.ran.notes)
 
   pub unopened-without : EndedWithout stand disks origin began limits origin opened
   unopened-without = ended-without origin opened

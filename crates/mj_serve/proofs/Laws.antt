@@ -1,5 +1,5 @@
 -- What holds of every run holds of this one.
-use Rattle.std.proofs.Common.{◌≡◌, ◌<◌, ◌^◌, ◌&&◌, ℕ, Bool, true, false, nat_le, List, [], ◌∷◌, refl, arith}
+use Rattle.std.proofs.Common.{◌≡◌, ◌<◌, ◌^◌, ◌&&◌, ℕ, Bool, true, false, nat_le, List, [], ◌∷◌, ◌++◌, refl, sym, ap, ◌∙◌, arith}
 use Rattle.std.proofs.lemmas.Bool.{leb-true}
 use Rattle.mj_base.specs.LawfulLimits.{are_lawful, is_within}
 use Rattle.mj_base.specs.declared.limits.Limits.{Limits}
@@ -14,9 +14,19 @@ use Rattle.mj_laws.proofs.RequestLemmas.{one_request_at_a_time}
 use Rattle.mj_laws.proofs.SettledLemmas.{events_settle, nobody_waits}
 use Rattle.mj_laws.proofs.SoundLemmas.{stays-sound}
 use Rattle.mj_laws.proofs.StorelessLemmas.{nothing_is_kept}
+use Rattle.mj_base.specs.declared.event.Note.{Note}
+use Rattle.mj_machine.specs.DiskActs.{notes_in}
+use Rattle.mj_machine.specs.MachineRun.{AreGiven, plain, plainly}
+use Rattle.mj_machine.specs.Steps.{Step, event_steps, outs_in, run_steps}
+use Rattle.mj_machine.proofs.ListLemmas.{all-front, all-rest}
+use Rattle.mj_machine.proofs.StepLemmas.{event-outs}
+use Rattle.mj_laws.specs.Storeless.{StaysStoreless}
+use Rattle.mj_titanic.proofs.Composing.{notes-append}
+use Rattle.mj_serve.specs.Given.{events_in}
+use Rattle.std.specs.List.{AllByRecursion}
 use Rattle.mj_machine.specs.EventStep.{Noted, state_after}
 use Rattle.mj_machine.specs.MachineState.{Machine, start_with}
-use Rattle.mj_machine.specs.StoreState.{Store, opened_store}
+use Rattle.mj_machine.specs.StoreState.{Store, no_store, opened_store}
 use Rattle.mj_store.specs.Commands.{IsLawful}
 use Rattle.mj_tickets.specs.declared.command.TicketCmd.{TicketCmd}
 use Rattle.mj_titanic.proofs.Alike.{are-alike}
@@ -36,12 +46,30 @@ keeps-laws limits store events begun = record {
   sound = stays-sound limits store events begun;
 }
 
-pub keeps-nothing : (limits : Limits) (events : List Noted) → KeepsNothing limits events
-keeps-nothing limits events = record {
+-- ---- without a store
+
+notes-of : (steps : List Step) → AllByRecursion StaysStoreless steps → notes_in (outs_in steps) ≡ []
+notes-of [] all = refl
+notes-of (t ∷ steps) all = notes-append t.outs (outs_in steps) ∙ ap (λ (ns : List Note). ns ++ notes_in (outs_in steps)) all.0.2 ∙ notes-of steps all.1
+
+plain-run : (limits : Limits) (m : Machine) (events : List Noted) → AllByRecursion StaysStoreless (run_steps limits m events) → AreGiven limits m events → events ≡ plainly (events_in events)
+plain-run limits m [] all given = refl
+plain-run limits m (e ∷ events) all given =
+    let now = event_steps limits m e in
+    let rest = run_steps limits (state_after limits m e) events in
+    let none : e.notes ≡ [] = sym given.0 ∙ ap notes_in (sym (event-outs limits m e)) ∙ notes-of now (all-front StaysStoreless now rest all) in
+    ap (λ (ns : List Note). record { event = e.event; notes = ns } ∷ events) none
+    ∙ ap (λ (es : List Noted). plain e.event ∷ es) (plain-run limits (state_after limits m e) events (all-rest StaysStoreless now rest all) given.1)
+
+pub keeps-nothing : (limits : Limits) (events : List Noted) → AreGiven limits (start_with limits no_store) events → KeepsNothing limits events
+keeps-nothing limits events given = record {
   nothing = nothing_is_kept limits events;
   waiting = nobody_waits limits events;
   replies = replies_are_owned_without limits events;
+  plain = plain-run limits (start_with limits no_store) events (nothing_is_kept limits events).0 given;
 }
+
+-- ---- over a file
 
 and-first : (a b : Bool) → (a && b) ≡ true → a ≡ true
 and-first true b is = refl

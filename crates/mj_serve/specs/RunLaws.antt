@@ -1,5 +1,5 @@
 -- What users rely on, over a run.
-use Rattle.std.specs.Prelude.{ℕ, List, [], ◌∷◌}
+use Rattle.std.specs.Prelude.{◌≡◌, ℕ, List, [], ◌∷◌}
 use Rattle.mj_base.specs.declared.limits.Limits.{Limits}
 use Rattle.mj_laws.specs.Kept.{CommandsGrow, ListsAreLawful}
 use Rattle.mj_laws.specs.NobodyWaits.{IsSettled, NobodyWaits}
@@ -9,9 +9,11 @@ use Rattle.mj_laws.specs.Soundness.{StaysSound}
 use Rattle.mj_laws.specs.Storeless.{NothingIsKept}
 use Rattle.mj_laws.specs.Tickets.{TicketsAreConserved}
 use Rattle.mj_machine.specs.EventStep.{Noted, state_after}
+use Rattle.mj_machine.specs.MachineRun.{plainly}
 use Rattle.mj_machine.specs.MachineState.{Machine, start_with}
 use Rattle.mj_machine.specs.StoreState.{Store, opened_store}
 use Rattle.mj_tickets.specs.declared.command.TicketCmd.{TicketCmd}
+use Rattle.mj_serve.specs.Given.{events_in}
 
 -- behind each event no queued request's service has a waiting worker
 abbrev pub SettlesOver : Limits → Machine → List Noted → Type 0
@@ -35,8 +37,10 @@ pub record KeepsTickets (limits : Limits) (seed : List ℕ) (base : ℕ) (comman
   pub grow : CommandsGrow limits (start_with limits (opened_store seed base commands)) events
   pub lawful : ListsAreLawful limits seed base commands events
 
--- without a store: no ticket is kept, nobody waits inside an event either, and no reply is one of a ticket service
+-- without a store: no ticket is kept, nobody waits inside an event either, no reply is one of a ticket service, and no
+-- event has a note
 pub record KeepsNothing (limits : Limits) (events : List Noted) : Type 0 where
   pub nothing : NothingIsKept limits events
   pub waiting : NobodyWaits limits events
   pub replies : RepliesAreOwnedWithout limits events
+  pub plain : events ≡ plainly (events_in events)

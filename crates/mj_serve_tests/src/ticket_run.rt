@@ -66,9 +66,9 @@ struct Ended {
     disk: MemoryDisk,
 }
 
-/// The run over an empty file, all of whose calls fail from the one of this number on.
-fn run(alloc: Global, stop: Option<u64>) -> Result<Ended, Fail> {
-    let mut disk = MemoryDisk::new(alloc, Octets::new(alloc), ROOM, Vec::new(alloc), stop)?;
+/// The run over an empty file. The calls of these numbers fail, and all from the number to stop at on.
+fn run(alloc: Global, failing: Vec<u64>, stop: Option<u64>) -> Result<Ended, Fail> {
+    let mut disk = MemoryDisk::new(alloc, Octets::new(alloc), ROOM, failing, stop)?;
     let Some(mut ports) = Recorder::new(alloc, 2, events(alloc)?) else {
         return Err("too many events".into());
     };
@@ -109,8 +109,8 @@ fn behind(moments: &[u64], moment: u64) -> u64 {
     most
 }
 
-/// How many commands a file opens as, told from where its closed gate stands.
-fn commands_in(alloc: Global, file: Octets) -> Result<u64, Fail> {
+/// Where the closed gate of a file stands, which must open.
+fn gate_in(alloc: Global, file: Octets) -> Result<u64, Fail> {
     if file.len() as u64 > ROOM {
         return Err("a long file".into());
     }
@@ -118,7 +118,12 @@ fn commands_in(alloc: Global, file: Octets) -> Result<u64, Fail> {
     let Ok(store) = Store::open(alloc, &Limits::standard(), &mut disk) else {
         return Err("a file that isn't opened".into());
     };
-    match store.end() {
+    Ok(store.end())
+}
+
+/// How many commands a file opens as, told from where its closed gate stands.
+fn commands_in(alloc: Global, file: Octets) -> Result<u64, Fail> {
+    match gate_in(alloc, file)? {
         16 => Ok(0),
         51 => Ok(1),
         74 => Ok(2),
@@ -130,7 +135,7 @@ fn commands_in(alloc: Global, file: Octets) -> Result<u64, Fail> {
 #[test]
 fn a_ticket_is_served(rt: HostRuntime) -> Result<(), Fail> {
     let alloc = rt.alloc();
-    let whole = run(alloc, None)?;
+    let whole = run(alloc, Vec::new(alloc), None)?;
     let answer = Ok(Summary {
         events: 12,
         pieces: 11,
@@ -145,15 +150,48 @@ fn a_ticket_is_served(rt: HostRuntime) -> Result<(), Fail> {
 #[test]
 fn each_image_since_a_piece_has_what_stands_behind_it(rt: HostRuntime) -> Result<(), Fail> {
     let alloc = rt.alloc();
-    let whole = run(alloc, None)?;
+    let whole = run(alloc, Vec::new(alloc), None)?;
     let moments = moments(alloc, &whole.ports)?;
     let calls = whole.disk.moment();
     assert!(rt; calls < 100);
     for stop in 0..=calls {
-        let stopped = run(alloc, Some(stop))?;
+        let stopped = run(alloc, Vec::new(alloc), Some(stop))?;
         for k in 0..3 {
             let commands = commands_in(alloc, stopped.disk.image(alloc, k)?)?;
             assert!(rt; commands >= behind(moments.as_slice(), stop));
+        }
+    }
+    Ok(())
+}
+
+/// How many notes were given.
+fn notes(ports: &Recorder) -> usize {
+    ports
+        .given
+        .iter()
+        .filter(|kept| matches!(&kept.out, Out::Note(_note)))
+        .count()
+}
+
+#[test]
+fn a_run_goes_on_behind_a_failed_call(rt: HostRuntime) -> Result<(), Fail> {
+    let alloc = rt.alloc();
+    let whole = run(alloc, Vec::new(alloc), None)?;
+    let calls = whole.disk.moment();
+    assert!(rt; calls < 100);
+    let refused = Err(ServeFault::DiskFault);
+    for call in 0..calls {
+        let mut failing = Vec::new(alloc);
+        failing.push(call)?;
+        let ended = run(alloc, failing, None)?;
+        if ended.answer == refused {
+            assert!(rt; ended.ports.given.is_empty());
+        } else {
+            assert!(rt; ended.answer.is_ok());
+            assert!(rt; notes(&ended.ports) > 0);
+        }
+        for k in 0..3 {
+            gate_in(alloc, ended.disk.image(alloc, k)?)?;
         }
     }
     Ok(())
