@@ -37,7 +37,7 @@ among-behind all xs ys among image is = by (one-of-both all xs image is)
     by (inr b) = one-of-second all ys image (among image b)
 
 module _ {D : Type 0} (disks : Ghosts D) where
-  goes-among : (disk after : D) (xs ys : List Store) → AreAmong xs ys → GoesOn disks disk after xs → GoesOn disks disk after ys
+  pub goes-among : (disk after : D) (xs ys : List Store) → AreAmong xs ys → GoesOn disks disk after xs → GoesOn disks disk after ys
   goes-among disk after xs ys among one start before all leaves =
       leaves_weaker (start, disks.time after) before (disks.told after) (IsOneOf (all ++ xs)) (IsOneOf (all ++ ys)) (one start before all leaves) (among-behind all xs ys among)
 
