@@ -8,3 +8,6 @@ pub mod Openings
 pub mod Telling
 pub mod Continuing
 pub mod Rowing
+pub mod Routed
+pub mod Following
+pub mod Finding

@@ -16,6 +16,7 @@ use Rattle.mj_titanic.specs.declared.fault.ActFault.TheVariants.{NoMemory, Refus
 use Rattle.mj_keeper.specs.declared.keeper.Keeper.{Keeper}
 use Rattle.mj_keeper.specs.declared.keeper.Shelf.TheVariants.{Absent}
 use Rattle.mj_titanic.specs.declared.acts.Keeping.{Keeping}
+use Rattle.mj_titanic.specs.declared.parts.Parts as declared
 
 -- ---- where an event stands
 
@@ -27,6 +28,9 @@ pub record Parts : Type 0 where
 
 abbrev pub parts : State → Keeping → Parts
 parts core keeping = record { core = core; keeper = keeping.keeper; acts = keeping.acts }
+
+abbrev pub seen : declared.Parts → Parts
+seen p = parts p.routing p.keeping
 
 pub record IsAt {D : Type 0} (disks : Ghosts D) (old : Parts) (disk : D) (w : Whole) : Type 0 where
   pub routing : old.core ≡ w.routing

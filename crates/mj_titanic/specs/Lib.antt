@@ -1,3 +1,4 @@
 pub mod Acting
 pub mod Accepting
 pub mod Reopening
+pub mod Services

@@ -2,7 +2,7 @@ ghost use Rattle.std.specs.Prelude.{◌≡◌, OnOk, IfOk, IfErr, true};
 ghost use Rattle.mj_machine.specs.MachineState.{State};
 ghost use Rattle.mj_store.specs.Commands.{CanBeKept};
 ghost use Rattle.mj_titanic.specs.Accepting.{Accepts, StopsAccepting, accept_of, is_kept};
-ghost use Rattle.mj_keeper.specs.Standing.{IsOpenWith, IsSound, is_open};
+ghost use Rattle.mj_keeper.specs.Standing.{IsOpenWith, IsSound, is_open, told_on};
 
 use crate::acts::Keeping;
 use crate::fault::ActFault;
@@ -41,6 +41,7 @@ impl Keeping {
         ensures stopped { IfErr result (λ fault. (core : State) → IsOpenWith (λ held. StopsAccepting D.Disk fault core held (accept_of self.old.keeper held service.now body.now) self.old disk.old disk.new) self.old.keeper.shelf) }
         ensures sound { OnOk result (IsSound D.Disk self.new.keeper disk.new) }
         ensures usable { IfOk result (λ accepted. is_open self.new.keeper.shelf ≡ is_kept accepted) }
+        ensures stored { OnOk result ((told_on self.new.keeper.shelf).stored ≡ true) }
     {
         let Shelf::Open(store) = &mut self.keeper.shelf else {
             unreachable!();

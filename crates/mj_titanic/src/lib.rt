@@ -4,9 +4,14 @@
 mod accepting;
 mod acts;
 mod fault;
+mod parts;
+mod replies;
 mod reopening;
+mod services;
+mod settling;
 
 pub use accepting::Accepted;
 pub use acts::Keeping;
 pub use fault::ActFault;
+pub use parts::Parts;
 
