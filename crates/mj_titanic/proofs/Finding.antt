@@ -29,7 +29,7 @@ use Rattle.mj_machine.proofs.ConnectionLemmas.{agrees}
 use Rattle.mj_keeper.specs.declared.keeper.Shelf.TheVariants as shelves
 use Rattle.mj_titanic.specs.Acting.{IsAt, Parts}
 use Rattle.mj_titanic.specs.Accepting.{accept_of, is_full_for}
-use Rattle.mj_titanic.proofs.Alike.{alike, next-alike, open-alike, tickets-are}
+use Rattle.mj_titanic.proofs.Alike.{AreAlike, alike, next-alike, open-alike, tickets-are}
 use Rattle.mj_titanic.proofs.Attempts.{OpensOn, opens-on}
 
 module _ {B C : Type 0} (h : B → C) where
@@ -59,6 +59,7 @@ pub record IsFound (id : List ℕ) (t : Ticket Place) (store : Store) : Type 0 w
   pub replied : is_some ticket.reply ≡ is_some t.reply
 
 module _ {D : Type 0} (disks : Ghosts D) (limits : Limits) (held : StoreValue) (disk : D) (store : Store) (o : OpensOn disks limits held disk store) (id : List ℕ) where
+  abbrev both : AreAlike store.base store.commands held.index
   both = alike store held.index o.holds.knows.index_is
 
   known-both : known id held.index ≡ option_map (mapped place_at) (known id both.both)
@@ -85,7 +86,7 @@ module _ {D : Type 0} (disks : Ghosts D) (limits : Limits) (held : StoreValue) (
           one (Some r) = refl
 
       by : (o : Option (Ticket Housed)) → known id both.both ≡ o → IsFound id t store
-      by None none = absurd (let no : Some t ≡ None = sym some ∙ known-both ∙ ap (option_map (mapped place_at)) none in cc no)
+      by None none = absurd (let differ : Some t ≡ None = sym some ∙ known-both ∙ ap (option_map (mapped place_at)) none in cc differ)
       by (Some h) is =
           let by_id : known id (tickets_of store) ≡ Some (mapped body_at h) = known-bodies ∙ ap (option_map (mapped body_at)) is in
           let fold = both.bodies ∙ ap (λ (f : Fold (List (List ℕ))). Some f) (sym (tickets-are store held.index both)) in
@@ -106,34 +107,34 @@ unknown-none None is = refl
 unknown-none (Some t) is = by (is_some t.reply) is
   where
     by : (b : Bool) → states.Unknown ≡ cond b states.Stored states.Pending → Some t ≡ None
-    by true no = absurd (cc no)
-    by false no = absurd (cc no)
+    by true other = absurd (cc other)
+    by false other = absurd (cc other)
 
 pub pending-some : (o : Option (Ticket Place)) → states.Pending ≡ state_in o → (t : Ticket Place) × (o ≡ Some t) × (is_some t.reply ≡ false)
 pending-some None is = absurd (cc is)
 pending-some (Some t) is = (t, refl, by (is_some t.reply) is)
   where
     by : (b : Bool) → states.Pending ≡ cond b states.Stored states.Pending → b ≡ false
-    by true no = absurd (cc no)
-    by false no = refl
+    by true other = absurd (cc other)
+    by false other = refl
 
 pub stored-some : (o : Option (Ticket Place)) → states.Stored ≡ state_in o → (t : Ticket Place) × (o ≡ Some t) × (is_some t.reply ≡ true)
 stored-some None is = absurd (cc is)
 stored-some (Some t) is = (t, refl, by (is_some t.reply) is)
   where
     by : (b : Bool) → states.Stored ≡ cond b states.Stored states.Pending → b ≡ true
-    by true no = refl
-    by false no = absurd (cc no)
+    by true other = refl
+    by false other = absurd (cc other)
 
 pub some-is : {A : Type 0} (o : Option A) (a : A) → o ≡ Some a → o ≢ None
-some-is o a is none = let no : Some a ≡ None = sym is ∙ none in cc no
+some-is o a is none = let differ : Some a ≡ None = sym is ∙ none in cc differ
 
 pub reply-some : (n : ℕ) (f : Fold Place) (t : Ticket Place) → ticket_of n f ≡ Some t → is_some t.reply ≡ true → reply_at n f ≢ None
 reply-some n f t is some none = by t.reply some (sym (ap (λ (o : Option (Ticket Place)). option_and_then (λ (u : Ticket Place). u.reply) o) is) ∙ none)
   where
     by : (o : Option Place) → is_some o ≡ true → o ≡ None → ⊥
-    by None is_it no = cc is_it
-    by (Some p) is_it no = cc no
+    by None is_it nothing = cc is_it
+    by (Some p) is_it nothing = cc nothing
 
 -- ---- room
 
@@ -143,6 +144,7 @@ file-length cmds cmd end is =
     omega (arith, e, is)
 
 module _ {D : Type 0} (disks : Ghosts D) (old : Parts) (held : StoreValue) (disk : D) (is : old.keeper.shelf ≡ shelves.Open held) (w : Whole) (at : IsAt disks old disk w) where
+  abbrev o : OpensOn disks old.keeper.limits held disk w.store
   o = opens-on disks old.keeper.limits old.keeper.shelf held disk w.store is at.store.stands.by
 
   full-alike : (cmd : TicketCmd) → machine.is_full w.routing.limits w.store cmd ≡ is_full_for held cmd

@@ -11,3 +11,5 @@ pub mod Rowing
 pub mod Routed
 pub mod Following
 pub mod Finding
+pub mod Showing
+pub mod Taking

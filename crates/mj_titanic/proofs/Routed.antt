@@ -10,10 +10,10 @@ use Rattle.mj_machine.specs.Connections.{connection_of, voice_of}
 use Rattle.mj_machine.specs.DiskActs.{notes_in, routed, routes}
 use Rattle.mj_machine.specs.Sending.{is_slow, reply_text, sends, sends_if, sends_to}
 use Rattle.mj_machine.specs.Pairing.{handed, hands, request_text, with_body}
-use Rattle.mj_machine.specs.TitanicStep.{accepted, answers, closed}
+use Rattle.mj_machine.specs.TitanicStep.{answers, closed}
 use Rattle.mj_queue.specs.Settling.{Pair, without_ticket}
 use Rattle.mj_queue.specs.declared.request.Request.{Request}
-use Rattle.mj_ids.specs.Ids.{text_of}
+use Rattle.mj_titanic.specs.Services.{accepted_as}
 use Rattle.std.specs.Prelude.{codes}
 use Rattle.mj_routing.specs.RoutingState.{Does}
 use Rattle.mj_keeper.specs.declared.keeper.Keeper.{Keeper}
@@ -49,9 +49,9 @@ pub closed-plain : (n : ℕ) (request : Request) (ticket : ℕ) (told : Told) (s
 closed-plain n request ticket told s =
     let p = answers-plain n request (codes "200" ∷ []) told (record s { queue = without_ticket ticket s.queue }) in record { quiet = p.quiet; limits = p.limits }
 
-pub accepted-plain : (ticket : ℕ) (id service : List ℕ) (n : ℕ) (request : Request) (told : Told) (s : State) → IsPlain (accepted ticket id service n request told s) s
-accepted-plain ticket id service n request told s =
-    let p = answers-plain n request (codes "200" ∷ text_of id ∷ []) told (record s { queue = s.queue ++ ticket_request ticket service ∷ [] }) in record { quiet = p.quiet; limits = p.limits }
+pub accepted-plain : (ticket : ℕ) (text service : List ℕ) (n : ℕ) (request : Request) (told : Told) (s : State) → IsPlain (accepted_as ticket text service n request told s) s
+accepted-plain ticket text service n request told s =
+    let p = answers-plain n request (codes "200" ∷ text ∷ []) told (record s { queue = s.queue ++ ticket_request ticket service ∷ [] }) in record { quiet = p.quiet; limits = p.limits }
 
 pub hands-plain : (body : List (List ℕ)) (p : Pair) (told : Told) (s : State) → IsPlain (hands body p told s) s
 hands-plain body p told s =

@@ -8,7 +8,6 @@ use crate::acts::Keeping;
 use crate::fault::ActFault;
 use mj_base::{Frames, Name, NoMemory, Out};
 use mj_disk::Disk;
-use mj_ids::TicketId;
 use mj_keeper::Shelf;
 use mj_store::AcceptFault;
 use std::alloc::Global;
@@ -18,8 +17,8 @@ use std::alloc::Global;
 pub enum Accepted {
     /// There are as many open tickets as the limits allow, or the file would be longer than they allow.
     Full,
-    /// It is open, with this number and this id.
-    Kept(u64, TicketId),
+    /// It is open, with this number, and with an id whose text is this.
+    Kept(u64, [u8; 36]),
     /// A call of the disk failed, and the store is shut.
     Failed,
 }
@@ -54,7 +53,7 @@ impl Keeping {
         match store.accept(alloc, disk, &self.keeper.seed, service, body) {
             Ok(id) => {
                 self.acts = next;
-                Ok(Accepted::Kept(number, id))
+                Ok(Accepted::Kept(number, id.text()))
             }
             Err(AcceptFault::Spent) => unreachable!(),
             Err(AcceptFault::Full) => Ok(Accepted::Full),

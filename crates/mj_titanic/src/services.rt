@@ -1,15 +1,14 @@
 //! The services of Titanic (ZeroMQ RFC 9).
 ghost use Rattle.std.specs.Prelude.{◌≡◌, ◌≢◌, true, None, [], ◌∷◌, OnOk, IfOk, IfErr, codes};
-ghost use Rattle.mj_ids.specs.Ids.{text_of};
 ghost use Rattle.mj_machine.specs.DiskActs.{routes};
-ghost use Rattle.mj_machine.specs.TitanicStep.{accepted, accepts, answers, closed, fetches, finishes, serves, submits, titanic_of};
+ghost use Rattle.mj_machine.specs.TitanicStep.{accepts, answers, closed, fetches, finishes, serves, submits, titanic_of};
 ghost use Rattle.mj_mmi.specs.Asking;
 ghost use Rattle.mj_store.specs.Bodies.{reply_at};
 ghost use Rattle.mj_store.specs.Commands.{CanBeKept};
 ghost use Rattle.mj_tickets.specs.Fold.{ticket_of};
 ghost use Rattle.mj_keeper.specs.Standing.{IsOpenWith, IsSound, is_open, told_on};
 ghost use Rattle.mj_titanic.specs.Acting.{Did, Stopped, around, nowhere, seen};
-ghost use Rattle.mj_titanic.specs.Services.{closes_known, closing, shows_known, showing};
+ghost use Rattle.mj_titanic.specs.Services.{accepted_as, closes_known, closing, shows_known, showing};
 
 use crate::accepting::Accepted;
 use crate::fault::ActFault;
@@ -199,8 +198,8 @@ impl Parts {
     {
         match self.keeping.accept(alloc, disk, service, body, outs) {
             Ok(Accepted::Full) => self.tell(alloc, disk, number, request, b"500", outs),
-            Ok(Accepted::Kept(ticket, id)) => {
-                self.tell_accepted(alloc, disk, number, request, ticket, &id, service, outs)
+            Ok(Accepted::Kept(ticket, text)) => {
+                self.tell_accepted(alloc, disk, number, request, ticket, &text, service, outs)
             }
             Ok(Accepted::Failed) => self.fail(alloc, disk, number, request, outs),
             Err(fault) => Err(fault),
@@ -214,19 +213,19 @@ impl Parts {
         number: u64,
         request: &Request,
         ticket: u64,
-        id: &TicketId,
+        text: &[u8; 36],
         service: &Name,
         outs: &mut Vec<Out>,
     ) -> Result<(), ActFault>
         requires sound { IsSound D.Disk self.old.keeping.keeper disk.now }
-        ensures done { OnOk result (Did D.Disk (seen self.old) disk.now (seen self.new) disk.now outs.old.items outs.new.items (routes (accepted ticket id.now service.now number request.now)) nowhere) }
+        ensures done { OnOk result (Did D.Disk (seen self.old) disk.now (seen self.new) disk.now outs.old.items outs.new.items (routes (accepted_as ticket text.now service.now number request.now)) nowhere) }
         ensures stopped { IfErr result (λ fault. Stopped D.Disk fault (seen self.old) disk.now disk.now nowhere) }
         ensures sound { OnOk result (IsSound D.Disk self.new.keeping.keeper disk.now) }
     {
         let Ok(()) = self.routing.queue_ticket(alloc, ticket, service) else {
             return Err(ActFault::NoMemory);
         };
-        let Ok(body) = id_frames(alloc, id) else {
+        let Ok(body) = id_frames(alloc, text) else {
             return Err(ActFault::NoMemory);
         };
         match self.send_reply(alloc, number, request, body, outs) {
@@ -332,12 +331,12 @@ impl Parts {
     }
 }
 
-fn id_frames(alloc: Global, id: &TicketId) -> Result<Frames, NoMemory>
-    ensures { IfOk result (λ frames. frames ≡ codes "200" ∷ text_of id.now ∷ []) }
+fn id_frames(alloc: Global, text: &[u8; 36]) -> Result<Frames, NoMemory>
+    ensures { IfOk result (λ frames. frames ≡ codes "200" ∷ text.now ∷ []) }
 {
     let mut frames = Frames::new(alloc);
     frames.push(b"200")?;
-    frames.push(&id.text())?;
+    frames.push(text.as_slice())?;
     Ok(frames)
 }
 

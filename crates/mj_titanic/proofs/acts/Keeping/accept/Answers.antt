@@ -1,6 +1,7 @@
 use Rattle.std.proofs.Common.{ℕ, ap, ◌∙◌, refl, inl, inr, Some}
 use Rattle.mj_titanic.specs.declared.fault.ActFault.TheVariants.{NoMemory}
 use Rattle.mj_keeper.specs.declared.keeper.Shelf.TheVariants as shelves
+use Rattle.mj_ids.specs.Ids.{text_of}
 use Rattle.mj_titanic.specs.Acting.{nowhere, parts}
 use Rattle.mj_titanic.specs.Accepting.{accept_of}
 use Rattle.mj_titanic.proofs.Composing.{stopped-still, stopped-unmoved}
@@ -16,7 +17,7 @@ pub returns-in-Ok-clause-done : goal.returns-in-Ok-clause-done
 returns-in-Ok-clause-done g c = λ core. open-with _ _ _ c.in-Open.is (
     c.in-Ok.ensures.room,
     c.next-number.ensures.value,
-    c.in-Ok.ensures.id,
+    c.text.ensures.value ∙ ap text_of c.in-Ok.ensures.id,
     append-did g.D.Disk (accept_of c.args.self.now.keeper c.in-Open.store c.args.service.now c.args.body.now) (parts core c.args.self.now) c.in-Open.store c.args.disk.now c.accept.new.disk c.in-Open.is c.accept.ensures.crash c.accept.ensures.count
     _ c.accept.new.self _ _ (c.in-Some.ensures.1) c.accept.ensures.telling refl refl c.accept.ensures.limits c.in-Ok.ensures.added refl,
 )

@@ -7,7 +7,8 @@ use Rattle.mj_titanic.proofs.Composing.{stopped-still}
 use Rattle.std.specs.Prelude.{codes}
 use Rattle.mj_ids.specs.Ids.{text_of}
 use Rattle.mj_keeper.specs.Standing.{told_on}
-use Rattle.mj_machine.specs.TitanicStep.{accepted, answers}
+use Rattle.mj_machine.specs.TitanicStep.{answers}
+use Rattle.mj_titanic.specs.Services.{accepted_as}
 use Rattle.mj_titanic.proofs.Routed.{accepted-plain, answers-at, routed-did}
 use Rattle.mj_titanic.proofs.parts.Parts.tell_accepted.Goals as goal
 
@@ -19,10 +20,10 @@ returns-in_default-id_frames-clause-stopped g c = stopped-still g.D.Disk NoMemor
 
 pub returns-in-Ok-send_reply-clause-done : goal.returns-in-Ok-send_reply-clause-done
 returns-in-Ok-send_reply-clause-done g c =
-    routed-did g.D.Disk (seen c.args.self.now) (seen c.send_reply.new.self) c.args.disk.now _ _ (accepted c.args.ticket c.args.id.now c.args.service.now c.args.number c.args.request.now)
+    routed-did g.D.Disk (seen c.args.self.now) (seen c.send_reply.new.self) c.args.disk.now _ _ (accepted_as c.args.ticket c.args.text.now c.args.service.now c.args.number c.args.request.now)
     (ap (λ (k : Keeping). k.keeper) c.in-Ok-send_reply.ensures.keeping) (ap (λ (k : Keeping). k.acts) c.in-Ok-send_reply.ensures.keeping)
     (answers-at _ _ _ c.args.number c.args.request.now _ _ _ _ _ c.in-Ok-id_frames.ensures c.in-Ok.ensures c.in-Ok-send_reply.ensures.routing)
-    (accepted-plain c.args.ticket c.args.id.now c.args.service.now c.args.number c.args.request.now _ _)
+    (accepted-plain c.args.ticket c.args.text.now c.args.service.now c.args.number c.args.request.now _ _)
 
 pub returns-in-Err-clause-stopped : goal.returns-in-Err-clause-stopped
 returns-in-Err-clause-stopped g c = stopped-still g.D.Disk NoMemory (seen c.args.self.now) c.args.disk.now nowhere tt (λ refused. absurd refused)
