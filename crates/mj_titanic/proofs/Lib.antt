@@ -12,4 +12,5 @@ pub mod Routed
 pub mod Following
 pub mod Finding
 pub mod Showing
+pub mod Known
 pub mod Taking

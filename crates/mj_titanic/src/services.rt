@@ -71,8 +71,9 @@ impl Parts {
         ensures stopped { IfErr result (λ fault. Stopped D.Disk fault (seen self.old) disk.old disk.new (around (finishes number request.now (Asking.read_ticket request.now.body)))) }
         ensures sound { OnOk result (IsSound D.Disk self.new.keeping.keeper disk.new) }
     {
-        let Some(id) = read_ticket(&request.body) else {
-            return self.tell(alloc, disk, number, request, b"400", outs);
+        let id = match read_ticket(&request.body) {
+            Some(id) => id,
+            None => return self.tell(alloc, disk, number, request, b"400", outs),
         };
         match self.open_again(alloc, disk, outs) {
             Ok(true) => self.close_known(alloc, disk, number, request, &id, outs),
@@ -249,8 +250,9 @@ impl Parts {
         ensures stopped { IfErr result (λ fault. Stopped D.Disk fault (seen self.old) disk.old disk.new (around (fetches number request.now (Asking.read_ticket request.now.body)))) }
         ensures sound { OnOk result (IsSound D.Disk self.new.keeping.keeper disk.new) }
     {
-        let Some(id) = read_ticket(&request.body) else {
-            return self.tell(alloc, disk, number, request, b"400", outs);
+        let id = match read_ticket(&request.body) {
+            Some(id) => id,
+            None => return self.tell(alloc, disk, number, request, b"400", outs),
         };
         match self.open_again(alloc, disk, outs) {
             Ok(true) => self.show_known(alloc, disk, number, request, &id, outs),

@@ -1,0 +1,31 @@
+use Rattle.std.proofs.Common.{◌≡◌, ◌∷◌, [], ℕ, List, Option, None, Some, Bool, true, false, ap, refl, sym, subst, ◌∙◌}
+use Rattle.mj_tickets.specs.declared.command.TicketCmd.TheVariants as cmds
+use Rattle.mj_machine.specs.Acts.{quiet}
+use Rattle.mj_machine.specs.DiskActs.{appending, clients_alone, reading, routes}
+use Rattle.mj_machine.specs.TitanicStep.{stores, stores_by}
+use Rattle.mj_titanic.specs.Acting.{core_behind, parts, seen}
+use Rattle.mj_titanic.specs.Services.{next_pair, stores_now}
+use Rattle.mj_titanic.proofs.Accepts.{if-err-map, on-ok-map, with-some}
+use Rattle.mj_titanic.proofs.Composing.{did-nothing, did-to}
+use Rattle.mj_titanic.proofs.Rowing.{did-around, did-same, opened-stopped, stopped-around, stopped-same}
+use Rattle.mj_titanic.proofs.Routed.{parts-same}
+use Rattle.mj_titanic.proofs.Following.{again-done, again-done-stopped, again-failed, again-failed-stopped}
+use Rattle.mj_titanic.proofs.parts.Parts.keep_reply.Goals as goal
+
+pub returns-in-Ok-true-clause-done : goal.returns-in-Ok-true-clause-done
+returns-in-Ok-true-clause-done g c =
+    on-ok-map c.store_now.result _ _ (λ did.
+    again-done g.D.Disk (seen c.args.self.now) c.args.disk.now quiet (stores_now c.args.ticket c.args.body.now) (seen c.open_again.new.self) c.open_again.new.disk _ _ c.in-Ok-true.ensures.done _ _ _ (c.in-Ok-true.ensures.usable ∙ c.in-Ok-true.field-0-test) did) c.store_now.ensures.done
+
+pub returns-in-Ok-true-clause-stopped : goal.returns-in-Ok-true-clause-stopped
+returns-in-Ok-true-clause-stopped g c =
+    if-err-map c.store_now.result _ _ (λ fault stopped.
+    again-done-stopped g.D.Disk (seen c.args.self.now) c.args.disk.now quiet (stores_now c.args.ticket c.args.body.now) (seen c.open_again.new.self) c.open_again.new.disk _ _ c.in-Ok-true.ensures.done fault _ (c.in-Ok-true.ensures.usable ∙ c.in-Ok-true.field-0-test) stopped) c.store_now.ensures.stopped
+
+pub returns-in-Ok-false-clause-done : goal.returns-in-Ok-false-clause-done
+returns-in-Ok-false-clause-done g c =
+    again-failed g.D.Disk (seen c.args.self.now) c.args.disk.now quiet (stores_now c.args.ticket c.args.body.now) (seen c.open_again.new.self) c.open_again.new.disk _ _ c.in-Ok-false.ensures.done _ _ _ (c.in-Ok-false.ensures.usable ∙ c.in-Ok-false.field-0-test) c.in-Ok-false.ensures.still_stored
+    (did-nothing g.D.Disk (seen c.open_again.new.self) c.open_again.new.disk _)
+
+pub returns-in-Err-clause-stopped : goal.returns-in-Err-clause-stopped
+returns-in-Err-clause-stopped g c = opened-stopped g.D.Disk (seen c.args.self.now) c.args.disk.now quiet (stores_now c.args.ticket c.args.body.now) _ _ c.in-Err.ensures.stopped
