@@ -1,6 +1,7 @@
 -- What is done to a ticket that is known by its id, as memory finds it.
 use Rattle.std.proofs.Common.{◌≡◌, ◌≢◌, ◌∷◌, ◌+◌, ◌≤◌, ℕ, Bool, true, false, cond, List, [], length, Option, None, Some, is_some, refl, sym, ap, subst, ◌∙◌, arith}
-use Rattle.std.specs.Prelude.{codes, sum_by, ◌&&◌, not}
+use Rattle.std.proofs.lemmas.List.Sums.{sum_by-cons}
+use Rattle.std.specs.Prelude.{codes, ◌&&◌, not}
 use Rattle.mj_base.specs.ServiceName.{is_reserved, is_service_name}
 use Rattle.mj_disk.specs.declared.disk.Disk.{Ghosts}
 use Rattle.mj_ids.specs.Ids.{number_of}
@@ -127,6 +128,7 @@ rest-kept frame frames kept =
     let rest = text_length frames in
     let short = kept.short in
     let counted = kept.counted in
+    let split = sum_by-cons (λ (f : List ℕ). length f) frame frames in
     record { counted = omega arith; short = omega arith }
 
 pub submitted-kept : (body : List (List ℕ)) (asked : List ℕ × List (List ℕ)) → CanBeKept body → Some asked ≡ read_submit body → CanBeKept asked.1

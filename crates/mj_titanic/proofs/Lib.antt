@@ -13,4 +13,5 @@ pub mod Following
 pub mod Finding
 pub mod Showing
 pub mod Known
+pub mod Handing
 pub mod Taking
