@@ -47,14 +47,14 @@ returns-in-Ok-false-clause-stopped g c =
     (again-failed-stopped g.D.Disk (seen c.args.self.now) c.args.disk.now (fails_to c.args.number c.args.request.now) (accepts c.args.number c.args.request.now c.in-Ok-Some.submitted) (seen c.open_again.new.self) c.open_again.new.disk _ _ c.in-Ok-false.ensures.done fault _ (c.in-Ok-false.ensures.usable ∙ c.in-Ok-false.field-0-test) c.in-Ok-false.ensures.still_stored stopped)
     (λ w at. ap (λ (o : Option (List ℕ × List (List ℕ))). submits c.args.number c.args.request.now o w) (sym c.in-Ok-Some.field-0-is ∙ c.in-Ok-Some.ensures))) c.tell-in-Ok-false.ensures.stopped
 
-pub returns-in-Err-clause-stopped : goal.returns-in-Err-clause-stopped
-returns-in-Err-clause-stopped g c =
+pub returns-clause-stopped : goal.returns-clause-stopped
+returns-clause-stopped g c =
     stopped-same g.D.Disk _ (seen c.args.self.now) c.args.disk.now _ (submits c.args.number c.args.request.now (Some c.in-Ok-Some.submitted)) (submits c.args.number c.args.request.now (Asking.read_submit c.args.request.now.body))
-    (opened-stopped g.D.Disk (seen c.args.self.now) c.args.disk.now (fails_to c.args.number c.args.request.now) (accepts c.args.number c.args.request.now c.in-Ok-Some.submitted) _ _ c.in-Err.ensures.stopped)
+    (opened-stopped g.D.Disk (seen c.args.self.now) c.args.disk.now (fails_to c.args.number c.args.request.now) (accepts c.args.number c.args.request.now c.in-Ok-Some.submitted) _ _ c.in-Err-open_again.ensures.stopped)
     (λ w at. ap (λ (o : Option (List ℕ × List (List ℕ))). submits c.args.number c.args.request.now o w) (sym c.in-Ok-Some.field-0-is ∙ c.in-Ok-Some.ensures))
 
-pub returns-in-Err-NoMemory-clause-stopped : goal.returns-in-Err-NoMemory-clause-stopped
-returns-in-Err-NoMemory-clause-stopped g c = stopped-still g.D.Disk NoMemory (seen c.args.self.now) c.args.disk.now _ tt (λ refused. absurd refused)
+pub returns-in-Err-clause-stopped : goal.returns-in-Err-clause-stopped
+returns-in-Err-clause-stopped g c = stopped-still g.D.Disk NoMemory (seen c.args.self.now) c.args.disk.now _ tt (λ refused. absurd refused)
 
 pub accept-requires-clause-body : goal.accept-requires-clause-body
 accept-requires-clause-body g c = submitted-kept c.args.request.now.body c.in-Ok-Some.submitted c.requires.body (sym c.in-Ok-Some.field-0-is ∙ c.in-Ok-Some.ensures)
