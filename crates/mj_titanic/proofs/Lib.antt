@@ -14,4 +14,5 @@ pub mod Finding
 pub mod Showing
 pub mod Known
 pub mod Handing
+pub mod Naming
 pub mod Taking
