@@ -13,9 +13,9 @@ ghost use Rattle.mj_keeper.specs.Standing.{IsOpenWith, IsSound, IsTicketBody, Is
 ghost use Rattle.mj_keeper.specs.declared.keeper.Shelf.TheVariants as shelves;
 
 use crate::fault::ActFault;
-use mj_keeper::{Keeper, Shelf};
 use mj_base::{Frames, NoMemory, Note, Out};
 use mj_disk::Disk;
+use mj_keeper::{Keeper, Shelf};
 use mj_store::{AppendFault, BodyFault, OpenFault};
 use std::alloc::Global;
 

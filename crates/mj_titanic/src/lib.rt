@@ -5,8 +5,8 @@ mod accepting;
 mod acts;
 mod fault;
 mod parts;
-mod replies;
 mod reopening;
+mod replies;
 mod services;
 mod settling;
 
@@ -14,4 +14,3 @@ pub use accepting::Accepted;
 pub use acts::Keeping;
 pub use fault::ActFault;
 pub use parts::Parts;
-

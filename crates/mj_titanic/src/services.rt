@@ -23,7 +23,9 @@ use mj_tickets::TicketState;
 use std::alloc::Global;
 
 const SUBMIT: &[u8] = b"titanic.request";
+
 const FETCH: &[u8] = b"titanic.reply";
+
 const FINISH: &[u8] = b"titanic.close";
 
 impl Parts {
