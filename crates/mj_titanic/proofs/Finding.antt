@@ -1,5 +1,5 @@
 -- A ticket that memory finds by its id is the machine's.
-use Rattle.std.proofs.Common.{◌≡◌, ◌≢◌, ◌==◌, ◌+◌, ◌||◌, ℕ, Bool, true, false, cond, List, [], ◌∷◌, ◌++◌, map, find, length, nat_le, nat_lt, Option, None, Some, is_some, option_map, refl, sym, ap, subst, ◌∙◌, arith}
+use Rattle.std.proofs.Common.{◌≡◌, ◌≢◌, ◌==◌, ◌+◌, ◌||◌, ℕ, Bool, true, false, cond, List, [], ◌∷◌, ◌++◌, map, find, length, nat_le, nat_lt, Option, None, Some, is_some, option_map, refl, sym, ap, ◌∙◌, arith}
 use Rattle.std.proofs.lemmas.List.{map-append}
 use Rattle.std.specs.Prelude.{option_and_then}
 use Rattle.std.specs.Str.{bytes_eq}
@@ -11,12 +11,11 @@ use Rattle.mj_journal.proofs.Standing.{ends_add_up}
 use Rattle.mj_queue.specs.declared.request.Request.{Request}
 use Rattle.mj_tickets.specs.declared.command.TicketCmd.{TicketCmd}
 use Rattle.mj_tickets.specs.declared.place.Place.{Place}
-use Rattle.mj_tickets.specs.declared.state.TicketState.{TicketState}
 use Rattle.mj_tickets.specs.declared.state.TicketState.TheVariants as states
 use Rattle.mj_tickets.specs.Payload.{payload_of}
 use Rattle.mj_tickets.specs.Fold.{Fold, Ticket, known, numbered, ticket_of}
 use Rattle.mj_tickets.specs.Index.{state_in}
-use Rattle.mj_tickets.specs.Laws.{Housed, body_at, map_fold, mapped, place_at}
+use Rattle.mj_tickets.specs.Laws.{Housed, body_at, mapped, place_at}
 use Rattle.mj_tickets.proofs.FoldLemmas.{fold_numbered, one_of_number}
 use Rattle.mj_store.specs.Bodies.{reply_at}
 use Rattle.mj_store.specs.Commands.{payloads_of}

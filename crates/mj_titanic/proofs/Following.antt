@@ -1,5 +1,5 @@
 -- A row: an act on the disk, and then this or that, by whether the store is open.
-use Rattle.std.proofs.Common.{◌≡◌, Bool, true, false, List, refl, sym, ap, subst, ◌∙◌}
+use Rattle.std.proofs.Common.{◌≡◌, true, false, List, refl, sym}
 use Rattle.mj_base.specs.declared.event.Out.{Out}
 use Rattle.mj_disk.specs.declared.disk.Disk.{Ghosts}
 use Rattle.mj_tickets.specs.declared.command.TicketCmd.{TicketCmd}
@@ -14,7 +14,7 @@ use Rattle.mj_titanic.specs.declared.fault.ActFault.{ActFault}
 use Rattle.mj_titanic.specs.Acting.{Did, IsAt, Parts, Stopped, around, nowhere}
 use Rattle.mj_titanic.proofs.Composing.{did-to}
 use Rattle.mj_titanic.proofs.Continuing.{KeepsStore, after, after-keeps, after-open, after-shut, appending-after, reading-after}
-use Rattle.mj_titanic.proofs.Rowing.{acted-stopped, acted-then, acted-then-stopped, did-around, opened-stopped, opened-then, opened-then-stopped, stopped-around}
+use Rattle.mj_titanic.proofs.Rowing.{acted-stopped, acted-then, acted-then-stopped, did-around, opened-then, opened-then-stopped, stopped-around}
 use Rattle.mj_titanic.proofs.Routed.{at-open, at-shut}
 
 pub open-is : (P : StoreValue → Type 0) (shelf : Shelf) → IsOpenWith P shelf → is_open shelf ≡ true

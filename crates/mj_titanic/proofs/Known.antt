@@ -1,5 +1,5 @@
 -- What is done to a ticket that is known by its id, as memory finds it.
-use Rattle.std.proofs.Common.{◌≡◌, ◌≢◌, ◌∷◌, ◌+◌, ◌≤◌, ℕ, Bool, true, false, cond, List, [], length, Option, None, Some, is_some, refl, sym, ap, subst, ◌∙◌, arith}
+use Rattle.std.proofs.Common.{◌≡◌, ◌≢◌, ◌∷◌, ℕ, Bool, true, false, cond, List, [], length, Option, None, Some, is_some, refl, sym, ap, subst, ◌∙◌, arith}
 use Rattle.std.proofs.lemmas.List.Sums.{sum_by-cons}
 use Rattle.std.specs.Prelude.{codes, ◌&&◌, not}
 use Rattle.mj_base.specs.ServiceName.{is_reserved, is_service_name}
@@ -11,7 +11,6 @@ use Rattle.mj_tickets.specs.declared.place.Place.{Place}
 use Rattle.mj_tickets.specs.declared.state.TicketState.TheVariants as states
 use Rattle.mj_tickets.specs.Fold.{Ticket, known, ticket_of}
 use Rattle.mj_tickets.specs.Index.{state_in}
-use Rattle.mj_tickets.specs.Payload.{body_text}
 use Rattle.mj_tickets.proofs.LengthLemmas.{text_length}
 use Rattle.mj_store.specs.Bodies.{reply_at}
 use Rattle.mj_store.specs.Commands as commands

@@ -1,8 +1,8 @@
 -- The services by their names.
-use Rattle.std.proofs.Common.{◌≡◌, ◌∙◌, Bool, true, false, cond, List, ℕ, Option, None, Some, ap}
+use Rattle.std.proofs.Common.{◌≡◌, ◌∙◌, Bool, true, false, cond, List, ℕ, None, Some, ap}
 use Rattle.std.specs.Prelude.{codes}
 use Rattle.std.specs.Str.{bytes_eq}
-use Rattle.mj_machine.specs.TitanicStep.{Titanic, Submits, Fetches, Finishes, titanic_of}
+use Rattle.mj_machine.specs.TitanicStep.{Submits, Fetches, Finishes, titanic_of}
 
 module _ (name : List ℕ) where
   pub is-submits : bytes_eq name (codes "titanic.request") ≡ true → titanic_of name ≡ Some Submits

@@ -15,10 +15,10 @@ use Rattle.mj_journal.specs.FileText.{end_of}
 use Rattle.mj_store.specs.Opening.{FindsDoubt, IsRefusal, LeavesInDoubt, NoneInDoubt, StaysInDoubt, found_if, has_moved}
 use Rattle.mj_store.specs.Standing.{Holds, IsHeld, IsInDoubt, IsTelling, StoreValue}
 use Rattle.mj_queue.specs.declared.request.Request.{Request}
-use Rattle.mj_machine.specs.StoreState.{Access, IsShut, Open, Shut, Store, doubted, tickets_of, waiting_tickets}
-use Rattle.mj_machine.specs.MachineState.{Act, State, Whole}
+use Rattle.mj_machine.specs.StoreState.{Access, IsShut, Open, Shut, Store, doubted}
+use Rattle.mj_machine.specs.MachineState.{State, Whole}
 use Rattle.mj_machine.specs.Acts.{quiet, ◌then◌}
-use Rattle.mj_machine.specs.DiskActs.{clients_alone, fails, finds, found_in, opening, opening_again, opening_by, reopened, reopens, says_found, says_shut, shuts, with_found}
+use Rattle.mj_machine.specs.DiskActs.{clients_alone, fails, finds, found_in, opening, opening_again, opening_by, reopened, reopens, says_found, says_shut, with_found}
 use Rattle.mj_machine.proofs.ConnectionLemmas.{agrees, equal}
 use Rattle.mj_keeper.specs.declared.keeper.Keeper.{Keeper}
 use Rattle.mj_keeper.specs.declared.keeper.Shelf.{Shelf}

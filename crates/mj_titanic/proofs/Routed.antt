@@ -1,13 +1,13 @@
 -- What is routed, as an act of the machine.
-use Rattle.std.proofs.Common.{◌≡◌, ◌+◌, ◌≤◌, ℕ, Bool, true, false, List, [], ◌∷◌, ◌++◌, length, Option, None, Some, refl, sym, ap, subst, ◌∙◌, arith}
+use Rattle.std.proofs.Common.{◌≡◌, ℕ, Bool, true, false, List, [], ◌∷◌, ◌++◌, length, Option, None, Some, refl, sym, ap, subst, ◌∙◌, arith}
 use Rattle.mj_base.specs.declared.event.Note.{Note}
 use Rattle.mj_base.specs.declared.event.Out.{Out}
 use Rattle.mj_disk.specs.declared.disk.Disk.{Ghosts}
 use Rattle.mj_machine.specs.declared.connection.Connection.{Connection}
 use Rattle.mj_machine.specs.StoreState.{IsShut, Told, ticket_request, told_by, usable}
-use Rattle.mj_machine.specs.MachineState.{Act, Done, State, Whole}
+use Rattle.mj_machine.specs.MachineState.{Done, State, Whole}
 use Rattle.mj_machine.specs.Connections.{connection_of, voice_of}
-use Rattle.mj_machine.specs.DiskActs.{notes_in, routed, routes}
+use Rattle.mj_machine.specs.DiskActs.{notes_in, routes}
 use Rattle.mj_machine.specs.Sending.{is_slow, reply_text, sends, sends_if, sends_to}
 use Rattle.mj_machine.specs.Pairing.{handed, hands, request_text, with_body}
 use Rattle.mj_machine.specs.TitanicStep.{answers, closed}
@@ -20,7 +20,7 @@ use Rattle.mj_keeper.specs.declared.keeper.Keeper.{Keeper}
 use Rattle.mj_keeper.specs.declared.keeper.Shelf.{Shelf}
 use Rattle.mj_keeper.specs.declared.keeper.Shelf.TheVariants as shelves
 use Rattle.mj_keeper.specs.Standing.{Sees, StandsBy, is_open, told_on}
-use Rattle.mj_titanic.specs.Acting.{AreOf, Did, Ends, IsAt, Parts, RoseBy, nowhere, parts, shut_count}
+use Rattle.mj_titanic.specs.Acting.{AreOf, Did, IsAt, Parts, RoseBy, nowhere, parts, shut_count}
 use Rattle.mj_titanic.specs.declared.acts.Keeping.{Keeping}
 use Rattle.mj_titanic.proofs.Attempts.{none-given}
 use Rattle.mj_titanic.proofs.Composing.{goes-nowhere}

@@ -1,13 +1,12 @@
 -- A ticket that is asked for, and what is told of it.
-use Rattle.std.proofs.Common.{◌≡◌, ◌∷◌, ◌⊎◌, ℕ, Bool, true, false, List, [], refl, sym, ap, subst, ◌∙◌, inl, inr}
+use Rattle.std.proofs.Common.{◌≡◌, ℕ, true, false, List, refl, sym, subst, inl, inr}
 use Rattle.mj_base.specs.declared.event.Out.{Out}
 use Rattle.mj_disk.specs.declared.disk.Disk.{Ghosts}
 use Rattle.mj_ids.specs.Ids.{id_of}
 use Rattle.mj_queue.specs.declared.request.Request.{Request}
 use Rattle.mj_store.specs.Standing.{StoreValue}
-use Rattle.mj_machine.specs.MachineState.{Act, State, Whole}
-use Rattle.mj_machine.specs.Acts.{quiet}
-use Rattle.mj_machine.specs.DiskActs.{appending, clients_alone, routes}
+use Rattle.mj_machine.specs.MachineState.{Act, State}
+use Rattle.mj_machine.specs.DiskActs.{clients_alone, routes}
 use Rattle.mj_machine.specs.TitanicStep.{accepted, accepts, accepts_by, fails_to}
 use Rattle.mj_keeper.specs.declared.keeper.Shelf.TheVariants as shelves
 use Rattle.mj_keeper.specs.Standing.{IsOpenWith, is_open, told_on}
@@ -17,7 +16,7 @@ use Rattle.mj_titanic.specs.declared.acts.Keeping.{Keeping}
 use Rattle.mj_titanic.specs.declared.fault.ActFault.{ActFault}
 use Rattle.mj_titanic.specs.Services.{accepted_as}
 use Rattle.mj_titanic.specs.Accepting.{Accepts, StopsAccepting, accept_of, appends, is_full_for}
-use Rattle.mj_titanic.specs.Acting.{Did, IsAt, Parts, Stopped, around, core_behind, nowhere, parts}
+use Rattle.mj_titanic.specs.Acting.{Did, Parts, Stopped, around, nowhere, parts}
 use Rattle.mj_titanic.proofs.Accepts.{with-open}
 use Rattle.mj_titanic.proofs.Finding.{accepts-are}
 use Rattle.mj_titanic.proofs.Following.{appending-are, first-stopped, opened-shelf, then-done, then-failed, then-stopped}

@@ -122,7 +122,7 @@ impl Parts {
         }
     }
 
-    /// An act of this request has failed: no ticket stays queued, and `500` is told.
+    /// An act has failed for this request: no ticket stays queued, and `500` is told.
     pub(crate) fn fail<D: Disk>(
         &mut self,
         alloc: Global,

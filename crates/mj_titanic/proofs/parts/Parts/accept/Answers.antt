@@ -1,10 +1,5 @@
-use Rattle.std.proofs.Common.{◌≡◌, ◌∷◌, [], Bool, false, ap, refl, sym, subst, ◌∙◌}
-use Rattle.std.specs.Prelude.{codes}
-use Rattle.mj_titanic.specs.Acting.{parts, seen, core_behind}
-use Rattle.mj_titanic.proofs.Accepts.{if-err-map, on-ok-map, with-some}
-use Rattle.mj_machine.specs.Acts.{quiet}
-use Rattle.mj_machine.specs.DiskActs.{appending, reading, routes}
-use Rattle.mj_machine.specs.TitanicStep.{answers, closed, fails_to}
+use Rattle.std.proofs.Common.{ap, ◌∙◌}
+use Rattle.mj_titanic.proofs.Accepts.{if-err-map, on-ok-map}
 use Rattle.mj_titanic.specs.Accepting.{is_kept}
 use Rattle.mj_titanic.proofs.Taking.{accept-stopped, failed-told, failed-told-stopped, full-did, full-stopped, kept-told, kept-told-stopped}
 use Rattle.mj_titanic.proofs.parts.Parts.accept.Goals as goal

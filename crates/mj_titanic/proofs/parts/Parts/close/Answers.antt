@@ -1,11 +1,10 @@
-use Rattle.std.proofs.Common.{◌≡◌, ◌∷◌, [], Bool, false, ap, refl, sym, ◌∙◌}
-use Rattle.std.specs.Prelude.{codes}
+use Rattle.std.proofs.Common.{Bool, false, ap, refl, ◌∙◌}
 use Rattle.mj_titanic.specs.Acting.{parts, seen, core_behind}
 use Rattle.mj_titanic.proofs.Accepts.{if-err-map, on-ok-map}
 use Rattle.mj_tickets.specs.declared.command.TicketCmd.TheVariants as cmds
 use Rattle.mj_machine.specs.Acts.{quiet}
-use Rattle.mj_machine.specs.DiskActs.{appending, reading, routes}
-use Rattle.mj_machine.specs.TitanicStep.{answers, closed, fails_to}
+use Rattle.mj_machine.specs.DiskActs.{appending, routes}
+use Rattle.mj_machine.specs.TitanicStep.{closed, fails_to}
 use Rattle.mj_titanic.specs.Services.{closing}
 use Rattle.mj_titanic.proofs.Following.{appending-are, first-stopped, open-is, then-done, then-failed, then-stopped}
 use Rattle.mj_titanic.proofs.parts.Parts.close.Goals as goal

@@ -1,24 +1,15 @@
-use Rattle.std.proofs.Common.{◌≡◌, ◌∷◌, [], ℕ, List, Option, None, Some, Bool, true, false, ap, refl, sym, subst, ◌∙◌}
-use Rattle.mj_tickets.specs.declared.command.TicketCmd.TheVariants as cmds
+use Rattle.std.proofs.Common.{ℕ, List, Option, ap, refl, ◌∙◌}
 use Rattle.mj_machine.specs.Acts.{quiet}
-use Rattle.mj_machine.specs.DiskActs.{appending, clients_alone, reading, routes}
-use Rattle.mj_machine.specs.TitanicStep.{stores, stores_by}
+use Rattle.mj_machine.specs.DiskActs.{clients_alone, reading, routes}
 use Rattle.mj_titanic.specs.Acting.{core_behind, parts, seen}
-use Rattle.mj_titanic.specs.Services.{next_pair, stores_now}
-use Rattle.mj_titanic.proofs.Accepts.{if-err-map, on-ok-map, with-some}
-use Rattle.mj_titanic.proofs.Composing.{did-nothing, did-to}
-use Rattle.mj_titanic.proofs.Rowing.{did-around, did-same, opened-stopped, stopped-around, stopped-same}
-use Rattle.mj_titanic.proofs.Routed.{parts-same}
-use Rattle.mj_titanic.proofs.Following.{again-done, again-done-stopped, again-failed, again-failed-stopped}
-use Rattle.mj_queue.specs.Offers.{offer_of}
-use Rattle.mj_queue.specs.Settling.{Pair, pair}
+use Rattle.mj_titanic.specs.Services.{next_pair}
+use Rattle.mj_titanic.proofs.Accepts.{with-some}
+use Rattle.mj_queue.specs.Settling.{pair}
 use Rattle.mj_queue.specs.declared.offer.Offer.{Offer}
-use Rattle.mj_queue.specs.declared.request.Origin.TheVariants as origins
 use Rattle.mj_keeper.specs.Standing.{told_on}
 use Rattle.mj_machine.specs.MachineState.{State}
 use Rattle.mj_machine.specs.Pairing.{hands, passes, waits}
 use Rattle.std.proofs.Common.{is_some}
-use Rattle.std.specs.Option.{option_map}
 use Rattle.mj_titanic.specs.declared.fault.ActFault.TheVariants.{NoMemory}
 use Rattle.mj_titanic.proofs.Handing.{hands_it, next-are, next-read, offer-same, offered, passes-done, passes-plain}
 use Rattle.mj_titanic.proofs.Following.{first-stopped, open-is, then-done, then-failed, then-stopped}

@@ -1,4 +1,4 @@
-use Rattle.std.proofs.Common.{◌≡◌, ◌∷◌, [], ap, refl, sym, ◌∙◌}
+use Rattle.std.proofs.Common.{◌∷◌, [], ap}
 use Rattle.mj_titanic.specs.declared.acts.Keeping.{Keeping}
 use Rattle.mj_titanic.specs.declared.fault.ActFault.TheVariants.{NoMemory}
 use Rattle.mj_titanic.specs.Acting.{nowhere, parts, seen}

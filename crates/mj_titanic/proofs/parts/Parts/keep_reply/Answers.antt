@@ -1,15 +1,11 @@
-use Rattle.std.proofs.Common.{◌≡◌, ◌∷◌, [], ℕ, List, Option, None, Some, Bool, true, false, ap, refl, sym, subst, ◌∙◌}
-use Rattle.mj_tickets.specs.declared.command.TicketCmd.TheVariants as cmds
+use Rattle.std.proofs.Common.{◌∙◌}
 use Rattle.mj_machine.specs.Acts.{quiet}
-use Rattle.mj_machine.specs.DiskActs.{appending, clients_alone, reading, routes}
-use Rattle.mj_machine.specs.TitanicStep.{stores, stores_by}
-use Rattle.mj_titanic.specs.Acting.{core_behind, parts, seen}
-use Rattle.mj_titanic.specs.Services.{next_pair, stores_now}
-use Rattle.mj_titanic.proofs.Accepts.{if-err-map, on-ok-map, with-some}
-use Rattle.mj_titanic.proofs.Composing.{did-nothing, did-to}
-use Rattle.mj_titanic.proofs.Rowing.{did-around, did-same, opened-stopped, stopped-around, stopped-same}
-use Rattle.mj_titanic.proofs.Routed.{parts-same}
-use Rattle.mj_titanic.proofs.Following.{again-done, again-done-stopped, again-failed, again-failed-stopped}
+use Rattle.mj_titanic.specs.Acting.{seen}
+use Rattle.mj_titanic.specs.Services.{stores_now}
+use Rattle.mj_titanic.proofs.Accepts.{if-err-map, on-ok-map}
+use Rattle.mj_titanic.proofs.Composing.{did-nothing}
+use Rattle.mj_titanic.proofs.Rowing.{opened-stopped}
+use Rattle.mj_titanic.proofs.Following.{again-done, again-done-stopped, again-failed}
 use Rattle.mj_titanic.proofs.parts.Parts.keep_reply.Goals as goal
 
 pub returns-in-Ok-true-clause-done : goal.returns-in-Ok-true-clause-done

@@ -1,8 +1,6 @@
-use Rattle.std.proofs.Common.{◌≡◌, ◌∷◌, [], ap, refl, sym, ◌∙◌}
-use Rattle.mj_titanic.specs.declared.acts.Keeping.{Keeping}
+use Rattle.std.proofs.Common.{sym, ◌∙◌}
 use Rattle.mj_titanic.specs.declared.fault.ActFault.TheVariants.{NoMemory}
-use Rattle.mj_titanic.specs.Acting.{nowhere, parts, seen}
-use Rattle.mj_titanic.proofs.Composing.{stopped-still}
+use Rattle.mj_titanic.specs.Acting.{seen}
 use Rattle.mj_titanic.proofs.Composing.{did-given-up, did-to}
 use Rattle.mj_titanic.proofs.Openings.{opening-kept, reopened-core}
 use Rattle.mj_titanic.proofs.Routed.{parts-same}

@@ -1,4 +1,4 @@
-use Rattle.std.proofs.Common.{◌≡◌, ◌∷◌, [], ℕ, List, Option, None, Some, Bool, true, false, ap, refl, sym, ◌∙◌}
+use Rattle.std.proofs.Common.{ℕ, List, Option, ap, sym, ◌∙◌}
 use Rattle.std.specs.Prelude.{codes}
 use Rattle.std.specs.Str.{bytes_eq}
 use Rattle.mj_mmi.specs.Asking

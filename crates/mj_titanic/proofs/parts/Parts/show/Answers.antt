@@ -1,10 +1,10 @@
-use Rattle.std.proofs.Common.{◌≡◌, ◌∷◌, [], ℕ, List, Option, is_some, Bool, false, ap, refl, sym, subst, ◌∙◌}
+use Rattle.std.proofs.Common.{◌∷◌, ℕ, List, Option, is_some, false, ap, refl, ◌∙◌}
 use Rattle.std.specs.Prelude.{codes}
 use Rattle.mj_titanic.specs.Acting.{parts, seen, core_behind}
 use Rattle.mj_titanic.proofs.Accepts.{if-err-map, on-ok-map, with-some}
 use Rattle.mj_machine.specs.Acts.{quiet}
-use Rattle.mj_machine.specs.DiskActs.{appending, reading, routes}
-use Rattle.mj_machine.specs.TitanicStep.{answers, closed, fails_to}
+use Rattle.mj_machine.specs.DiskActs.{reading, routes}
+use Rattle.mj_machine.specs.TitanicStep.{answers, fails_to}
 use Rattle.mj_titanic.specs.Services.{showing}
 use Rattle.mj_titanic.proofs.Following.{first-stopped, open-is, then-done, then-failed, then-stopped}
 use Rattle.mj_titanic.proofs.Showing.{showing-are, showing-read, tells_it}

@@ -1,13 +1,10 @@
-use Rattle.std.proofs.Common.{◌≡◌, ◌∷◌, [], ℕ, List, Option, None, Some, Bool, false, ap, refl, sym, subst, ◌∙◌}
 use Rattle.std.specs.Prelude.{codes}
-use Rattle.mj_mmi.specs.Asking
 use Rattle.mj_titanic.specs.Acting.{seen}
 use Rattle.mj_titanic.proofs.Accepts.{if-err-map, on-ok-map}
-use Rattle.mj_titanic.proofs.Rowing.{did-around, did-same, opened-stopped, stopped-around, stopped-same}
-use Rattle.mj_titanic.proofs.Following.{again-done, again-done-stopped, again-failed, again-failed-stopped}
-use Rattle.mj_machine.specs.TitanicStep.{accepts, fails_to, fetches, finishes, submits, tells}
-use Rattle.mj_titanic.specs.Services.{closes_known, closing, shows_known, showing}
-use Rattle.mj_titanic.proofs.Known.{closes-pending, closes-stored, closes-unknown, open-pending, open-stored, reply-stored, shows-pending, shows-stored, shows-unknown}
+use Rattle.mj_titanic.proofs.Rowing.{did-around, did-same, stopped-around, stopped-same}
+use Rattle.mj_machine.specs.TitanicStep.{tells}
+use Rattle.mj_titanic.specs.Services.{shows_known, showing}
+use Rattle.mj_titanic.proofs.Known.{reply-stored, shows-pending, shows-stored, shows-unknown}
 use Rattle.mj_titanic.proofs.parts.Parts.show_known.Goals as goal
 
 pub returns-in-Unknown-clause-done : goal.returns-in-Unknown-clause-done

@@ -1,12 +1,11 @@
-use Rattle.std.proofs.Common.{◌≡◌, ◌∷◌, [], ℕ, List, Option, None, Some, Bool, false, ap, refl, sym, subst, ◌∙◌}
+use Rattle.std.proofs.Common.{ℕ, List, Option, Some, ap, sym, ◌∙◌}
 use Rattle.std.specs.Prelude.{codes}
 use Rattle.mj_mmi.specs.Asking
 use Rattle.mj_titanic.specs.Acting.{seen}
 use Rattle.mj_titanic.proofs.Accepts.{if-err-map, on-ok-map}
 use Rattle.mj_titanic.proofs.Rowing.{did-around, did-same, opened-stopped, stopped-around, stopped-same}
 use Rattle.mj_titanic.proofs.Following.{again-done, again-done-stopped, again-failed, again-failed-stopped}
-use Rattle.mj_machine.specs.TitanicStep.{accepts, fails_to, fetches, finishes, submits, tells}
-use Rattle.mj_titanic.specs.Services.{closes_known, closing, shows_known, showing}
+use Rattle.mj_machine.specs.TitanicStep.{accepts, fails_to, submits, tells}
 use Rattle.mj_titanic.specs.declared.fault.ActFault.TheVariants.{NoMemory}
 use Rattle.mj_titanic.proofs.Composing.{stopped-still}
 use Rattle.mj_titanic.proofs.Known.{submitted-kept}

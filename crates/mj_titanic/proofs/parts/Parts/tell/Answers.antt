@@ -1,7 +1,7 @@
-use Rattle.std.proofs.Common.{◌≡◌, ◌∷◌, [], ap, refl, sym, ◌∙◌}
+use Rattle.std.proofs.Common.{◌∷◌, [], ap}
 use Rattle.mj_titanic.specs.declared.acts.Keeping.{Keeping}
 use Rattle.mj_titanic.specs.declared.fault.ActFault.TheVariants.{NoMemory}
-use Rattle.mj_titanic.specs.Acting.{nowhere, parts, seen}
+use Rattle.mj_titanic.specs.Acting.{nowhere, seen}
 use Rattle.mj_titanic.proofs.Composing.{stopped-still}
 use Rattle.mj_machine.specs.TitanicStep.{answers}
 use Rattle.mj_titanic.proofs.Routed.{answers-plain, routed-did}

@@ -1,12 +1,8 @@
-use Rattle.std.proofs.Common.{◌≡◌, ◌∷◌, [], ap, refl, sym, ◌∙◌}
+use Rattle.std.proofs.Common.{ap}
 use Rattle.mj_titanic.specs.declared.acts.Keeping.{Keeping}
 use Rattle.mj_titanic.specs.declared.fault.ActFault.TheVariants.{NoMemory}
-use Rattle.mj_titanic.specs.Acting.{nowhere, parts, seen}
+use Rattle.mj_titanic.specs.Acting.{nowhere, seen}
 use Rattle.mj_titanic.proofs.Composing.{stopped-still}
-use Rattle.std.specs.Prelude.{codes}
-use Rattle.mj_ids.specs.Ids.{text_of}
-use Rattle.mj_keeper.specs.Standing.{told_on}
-use Rattle.mj_machine.specs.TitanicStep.{answers}
 use Rattle.mj_titanic.specs.Services.{accepted_as}
 use Rattle.mj_titanic.proofs.Routed.{accepted-plain, answers-at, routed-did}
 use Rattle.mj_titanic.proofs.parts.Parts.tell_accepted.Goals as goal

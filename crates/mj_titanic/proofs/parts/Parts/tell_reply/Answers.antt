@@ -1,7 +1,7 @@
-use Rattle.std.proofs.Common.{◌≡◌, ◌∷◌, [], ap, refl, sym, ◌∙◌}
+use Rattle.std.proofs.Common.{◌∷◌, ap, refl}
 use Rattle.mj_titanic.specs.declared.acts.Keeping.{Keeping}
 use Rattle.mj_titanic.specs.declared.fault.ActFault.TheVariants.{NoMemory}
-use Rattle.mj_titanic.specs.Acting.{nowhere, parts, seen}
+use Rattle.mj_titanic.specs.Acting.{nowhere, seen}
 use Rattle.mj_titanic.proofs.Composing.{stopped-still}
 use Rattle.std.specs.Prelude.{codes}
 use Rattle.mj_keeper.specs.Standing.{told_on}
