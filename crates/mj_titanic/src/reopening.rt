@@ -33,6 +33,7 @@ impl Keeping {
         ensures stopped { IfErr result (λ fault. (core : State) → Stopped D.Disk fault (parts core self.old) disk.old disk.new (around (opening quiet quiet))) }
         ensures sound { OnOk result (IsSound D.Disk self.new.keeper disk.new) }
         ensures usable { IfOk result (λ opened. is_open self.new.keeper.shelf ≡ opened) }
+        ensures still_stored { OnOk result ((told_on self.new.keeper.shelf).stored ≡ true) }
     {
         let end = match &self.keeper.shelf {
             Shelf::Absent => unreachable!(),
