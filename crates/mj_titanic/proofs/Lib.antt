@@ -16,3 +16,4 @@ pub mod Known
 pub mod Handing
 pub mod Naming
 pub mod Taking
+pub mod OnwardLemmas

@@ -3,6 +3,7 @@ ghost use Rattle.mj_machine.specs.MachineState.{State};
 ghost use Rattle.mj_store.specs.Commands.{CanBeKept};
 ghost use Rattle.mj_titanic.specs.Accepting.{Accepts, StopsAccepting, accept_of, is_kept};
 ghost use Rattle.mj_keeper.specs.Standing.{IsOpenWith, IsSound, is_open, told_on};
+ghost use Rattle.mj_titanic.specs.Onward.{SameKeeper};
 
 use crate::acts::Keeping;
 use crate::fault::ActFault;
@@ -41,6 +42,7 @@ impl Keeping {
         ensures sound { OnOk result (IsSound D.Disk self.new.keeper disk.new) }
         ensures usable { IfOk result (λ accepted. is_open self.new.keeper.shelf ≡ is_kept accepted) }
         ensures stored { OnOk result ((told_on self.new.keeper.shelf).stored ≡ true) }
+        ensures same_keeper { SameKeeper self.old.keeper self.new.keeper }
     {
         let Shelf::Open(store) = &mut self.keeper.shelf else {
             unreachable!();

@@ -11,6 +11,7 @@ ghost use Rattle.mj_tickets.specs.declared.command.TicketCmd.TheVariants as cmds
 ghost use Rattle.mj_titanic.specs.Acting.{Did, Stopped, around, core_behind, parts};
 ghost use Rattle.mj_keeper.specs.Standing.{IsOpenWith, IsSound, IsTicketBody, IsTicketReply, is_open, told_on};
 ghost use Rattle.mj_keeper.specs.declared.keeper.Shelf.TheVariants as shelves;
+ghost use Rattle.mj_titanic.specs.Onward.{SameKeeper};
 
 use crate::fault::ActFault;
 use mj_base::{Frames, NoMemory, Note, Out};
@@ -45,6 +46,7 @@ impl Keeping {
         ensures sound { OnOk result (IsSound D.Disk self.new.keeper disk.new) }
         ensures usable { IfOk result (λ kept. is_open self.new.keeper.shelf ≡ kept) }
         ensures stored { OnOk result ((told_on self.new.keeper.shelf).stored ≡ true) }
+        ensures same_keeper { SameKeeper self.old.keeper self.new.keeper }
     {
         let Shelf::Open(store) = &mut self.keeper.shelf else {
             unreachable!();
@@ -82,6 +84,7 @@ impl Keeping {
         ensures sound { OnOk result (IsSound D.Disk self.new.keeper disk.new) }
         ensures usable { IfOk result (λ kept. is_open self.new.keeper.shelf ≡ kept) }
         ensures stored { OnOk result ((told_on self.new.keeper.shelf).stored ≡ true) }
+        ensures same_keeper { SameKeeper self.old.keeper self.new.keeper }
     {
         let Shelf::Open(store) = &mut self.keeper.shelf else {
             unreachable!();
@@ -120,6 +123,7 @@ impl Keeping {
         ensures sound { OnOk result (IsSound D.Disk self.new.keeper disk.new) }
         ensures usable { IfOk result (λ read. is_open self.new.keeper.shelf ≡ is_some read) }
         ensures stored { OnOk result ((told_on self.new.keeper.shelf).stored ≡ true) }
+        ensures same_keeper { SameKeeper self.old.keeper self.new.keeper }
     {
         let Shelf::Open(store) = &mut self.keeper.shelf else {
             unreachable!();
@@ -159,6 +163,7 @@ impl Keeping {
         ensures sound { OnOk result (IsSound D.Disk self.new.keeper disk.new) }
         ensures usable { IfOk result (λ read. is_open self.new.keeper.shelf ≡ is_some read) }
         ensures stored { OnOk result ((told_on self.new.keeper.shelf).stored ≡ true) }
+        ensures same_keeper { SameKeeper self.old.keeper self.new.keeper }
     {
         let Shelf::Open(store) = &mut self.keeper.shelf else {
             unreachable!();
@@ -198,6 +203,7 @@ impl Keeping {
         ensures keeper { OnOk result (self.new.keeper ≡ record self.old.keeper { shelf = shelves.Shut end }) }
         ensures acts { OnOk result (self.new.acts ≡ next) }
         ensures note { OnOk result (outs.new.items ≡ outs.old.items ++ out.Note (notes.Shut self.old.acts) ∷ []) }
+        ensures same_keeper { SameKeeper self.old.keeper self.new.keeper }
     {
         outs.push(Out::Note(Note::Shut(self.acts)))?;
         self.keeper.shelf = Shelf::Shut(end);

@@ -6,6 +6,7 @@ ghost use Rattle.mj_routing.specs.RoutingState.{Does};
 ghost use Rattle.mj_keeper.specs.Standing.{IsSound, is_open, told_on};
 ghost use Rattle.mj_titanic.specs.Acting.{Did, Stopped, around, nowhere, parts, seen};
 ghost use Rattle.mj_titanic.specs.Reopening.{core_opened};
+ghost use Rattle.mj_titanic.specs.Onward.{FromAny, Onward, SameKeeper};
 
 use crate::acts::Keeping;
 use crate::fault::ActFault;
@@ -39,6 +40,8 @@ impl Parts {
         ensures sound { OnOk result (IsSound D.Disk self.new.keeping.keeper disk.new) }
         ensures usable { IfOk result (λ opened. is_open self.new.keeping.keeper.shelf ≡ opened) }
         ensures still_stored { OnOk result ((told_on self.new.keeping.keeper.shelf).stored ≡ true) }
+        ensures stays { OnOk result (Onward self.old self.new) }
+        ensures keeper { SameKeeper self.old.keeping.keeper self.new.keeping.keeper }
     {
         if self.keeping.is_open() {
             return Ok(true);
@@ -57,6 +60,7 @@ impl Parts {
     fn route_again(&mut self, alloc: Global) -> Result<(), NoMemory>
         ensures keeping { OnOk result (self.new.keeping ≡ self.old.keeping) }
         ensures routing { OnOk result (self.new.routing ≡ core_opened self.old.keeping.keeper.shelf self.old.routing) }
+        ensures keeper { SameKeeper self.old.keeping.keeper self.new.keeping.keeper }
     {
         match &self.keeping.keeper.shelf {
             Shelf::Absent => Ok(()),
@@ -79,6 +83,8 @@ impl Parts {
     ) -> Result<(), NoMemory>
         ensures keeping { OnOk result (self.new.keeping ≡ self.old.keeping) }
         ensures routing { OnOk result (Does self.new.routing outs.old.items outs.new.items (answers number request.now body (told_on self.old.keeping.keeper.shelf) self.old.routing)) }
+        ensures stays { OnOk result (Onward self.old self.new) }
+        ensures keeper { SameKeeper self.old.keeping.keeper self.new.keeping.keeper }
     {
         let piece = reply_octets(alloc, true, request, body)?;
         self.routing.send(number, piece, &self.keeping.keeper, outs)
@@ -95,6 +101,8 @@ impl Parts {
     ) -> Result<(), NoMemory>
         ensures keeping { OnOk result (self.new.keeping ≡ self.old.keeping) }
         ensures routing { OnOk result (Does self.new.routing outs.old.items outs.new.items (answers number request.now (code.now ∷ []) (told_on self.old.keeping.keeper.shelf) self.old.routing)) }
+        ensures stays { OnOk result (Onward self.old self.new) }
+        ensures keeper { SameKeeper self.old.keeping.keeper self.new.keeping.keeper }
     {
         let mut body = Frames::new(alloc);
         body.push(code)?;
@@ -115,6 +123,8 @@ impl Parts {
         ensures done { OnOk result (Did D.Disk (seen self.old) disk.now (seen self.new) disk.now outs.old.items outs.new.items (tells number request.now code.now) nowhere) }
         ensures stopped { IfErr result (λ fault. Stopped D.Disk fault (seen self.old) disk.now disk.now nowhere) }
         ensures sound { OnOk result (IsSound D.Disk self.new.keeping.keeper disk.now) }
+        ensures stays { OnOk result (Onward self.old self.new) }
+        ensures keeper { SameKeeper self.old.keeping.keeper self.new.keeping.keeper }
     {
         match self.send_code(alloc, number, request, code, outs) {
             Ok(()) => Ok(()),
@@ -135,6 +145,8 @@ impl Parts {
         ensures done { OnOk result (Did D.Disk (parts (clients_alone self.old.routing) self.old.keeping) disk.now (seen self.new) disk.now outs.old.items outs.new.items (fails_to number request.now) nowhere) }
         ensures stopped { IfErr result (λ fault. Stopped D.Disk fault (parts (clients_alone self.old.routing) self.old.keeping) disk.now disk.now nowhere) }
         ensures sound { OnOk result (IsSound D.Disk self.new.keeping.keeper disk.now) }
+        ensures stays { OnOk result (FromAny self.old self.new) }
+        ensures keeper { SameKeeper self.old.keeping.keeper self.new.keeping.keeper }
     {
         self.routing.drop_tickets();
         match self.send_code(alloc, number, request, b"500", outs) {

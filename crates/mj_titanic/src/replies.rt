@@ -5,6 +5,7 @@ ghost use Rattle.mj_store.specs.Commands.{CanBeKept};
 ghost use Rattle.mj_keeper.specs.Standing.{IsSound, is_open, told_on};
 ghost use Rattle.mj_titanic.specs.Acting.{Did, Stopped, around, seen};
 ghost use Rattle.mj_titanic.specs.Services.{stores_now};
+ghost use Rattle.mj_titanic.specs.Onward.{Onward, SameKeeper};
 
 use crate::fault::ActFault;
 use crate::parts::Parts;
@@ -30,6 +31,8 @@ impl Parts {
         ensures done { OnOk result (Did D.Disk (seen self.old) disk.old (seen self.new) disk.new outs.old.items outs.new.items (stores ticket body.now) (around (stores ticket body.now))) }
         ensures stopped { IfErr result (λ fault. Stopped D.Disk fault (seen self.old) disk.old disk.new (around (stores ticket body.now))) }
         ensures sound { OnOk result (IsSound D.Disk self.new.keeping.keeper disk.new) }
+        ensures stays { OnOk result (Onward self.old self.new) }
+        ensures keeper { SameKeeper self.old.keeping.keeper self.new.keeping.keeper }
     {
         match self.open_again(alloc, disk, outs) {
             Ok(true) => self.store_now(alloc, disk, ticket, body, outs),
@@ -52,6 +55,8 @@ impl Parts {
         ensures done { OnOk result (Did D.Disk (seen self.old) disk.old (seen self.new) disk.new outs.old.items outs.new.items (stores_now ticket body.now) (around (stores_now ticket body.now))) }
         ensures stopped { IfErr result (λ fault. Stopped D.Disk fault (seen self.old) disk.old disk.new (around (stores_now ticket body.now))) }
         ensures sound { OnOk result (IsSound D.Disk self.new.keeping.keeper disk.new) }
+        ensures stays { OnOk result (Onward self.old self.new) }
+        ensures keeper { SameKeeper self.old.keeping.keeper self.new.keeping.keeper }
     {
         let Shelf::Open(store) = &self.keeping.keeper.shelf else {
             unreachable!();

@@ -9,6 +9,7 @@ ghost use Rattle.mj_tickets.specs.Fold.{ticket_of};
 ghost use Rattle.mj_keeper.specs.Standing.{IsOpenWith, IsSound, is_open, told_on};
 ghost use Rattle.mj_titanic.specs.Acting.{Did, Stopped, around, nowhere, seen};
 ghost use Rattle.mj_titanic.specs.Services.{accepted_as, closes_known, closing, shows_known, showing};
+ghost use Rattle.mj_titanic.specs.Onward.{OpenOnward, Onward, SameKeeper};
 
 use crate::accepting::Accepted;
 use crate::fault::ActFault;
@@ -44,6 +45,8 @@ impl Parts {
         ensures done { OnOk result (Did D.Disk (seen self.old) disk.old (seen self.new) disk.new outs.old.items outs.new.items (serves (titanic_of request.now.service) number request.now) (around (serves (titanic_of request.now.service) number request.now))) }
         ensures stopped { IfErr result (λ fault. Stopped D.Disk fault (seen self.old) disk.old disk.new (around (serves (titanic_of request.now.service) number request.now))) }
         ensures sound { OnOk result (IsSound D.Disk self.new.keeping.keeper disk.new) }
+        ensures stays { OnOk result (Onward self.old self.new) }
+        ensures keeper { SameKeeper self.old.keeping.keeper self.new.keeping.keeper }
     {
         let name = request.service.as_slice();
         if name == SUBMIT {
@@ -72,6 +75,8 @@ impl Parts {
         ensures done { OnOk result (Did D.Disk (seen self.old) disk.old (seen self.new) disk.new outs.old.items outs.new.items (finishes number request.now (Asking.read_ticket request.now.body)) (around (finishes number request.now (Asking.read_ticket request.now.body)))) }
         ensures stopped { IfErr result (λ fault. Stopped D.Disk fault (seen self.old) disk.old disk.new (around (finishes number request.now (Asking.read_ticket request.now.body)))) }
         ensures sound { OnOk result (IsSound D.Disk self.new.keeping.keeper disk.new) }
+        ensures stays { OnOk result (Onward self.old self.new) }
+        ensures keeper { SameKeeper self.old.keeping.keeper self.new.keeping.keeper }
     {
         let id = match read_ticket(&request.body) {
             Some(id) => id,
@@ -98,6 +103,8 @@ impl Parts {
         ensures done { OnOk result (Did D.Disk (seen self.old) disk.old (seen self.new) disk.new outs.old.items outs.new.items (closes_known number request.now id.now) (around (closes_known number request.now id.now))) }
         ensures stopped { IfErr result (λ fault. Stopped D.Disk fault (seen self.old) disk.old disk.new (around (closes_known number request.now id.now))) }
         ensures sound { OnOk result (IsSound D.Disk self.new.keeping.keeper disk.new) }
+        ensures stays { OnOk result (Onward self.old self.new) }
+        ensures keeper { SameKeeper self.old.keeping.keeper self.new.keeping.keeper }
     {
         let Shelf::Open(store) = &self.keeping.keeper.shelf else {
             unreachable!();
@@ -124,6 +131,8 @@ impl Parts {
         ensures done { OnOk result (Did D.Disk (seen self.old) disk.old (seen self.new) disk.new outs.old.items outs.new.items (closing number request.now ticket) (around (closing number request.now ticket))) }
         ensures stopped { IfErr result (λ fault. Stopped D.Disk fault (seen self.old) disk.old disk.new (around (closing number request.now ticket))) }
         ensures sound { OnOk result (IsSound D.Disk self.new.keeping.keeper disk.new) }
+        ensures stays { OnOk result (Onward self.old self.new) }
+        ensures keeper { SameKeeper self.old.keeping.keeper self.new.keeping.keeper }
     {
         match self.keeping.close_ticket(alloc, disk, ticket, outs) {
             Ok(true) => self.tell_closed(alloc, disk, number, request, ticket, outs),
@@ -145,6 +154,8 @@ impl Parts {
         ensures done { OnOk result (Did D.Disk (seen self.old) disk.now (seen self.new) disk.now outs.old.items outs.new.items (routes (closed number request.now ticket)) nowhere) }
         ensures stopped { IfErr result (λ fault. Stopped D.Disk fault (seen self.old) disk.now disk.now nowhere) }
         ensures sound { OnOk result (IsSound D.Disk self.new.keeping.keeper disk.now) }
+        ensures stays { OnOk result (OpenOnward self.old self.new) }
+        ensures keeper { SameKeeper self.old.keeping.keeper self.new.keeping.keeper }
     {
         self.routing.drop_ticket(ticket);
         match self.send_code(alloc, number, request, b"200", outs) {
@@ -168,6 +179,8 @@ impl Parts {
         ensures done { OnOk result (Did D.Disk (seen self.old) disk.old (seen self.new) disk.new outs.old.items outs.new.items (submits number request.now (Asking.read_submit request.now.body)) (around (submits number request.now (Asking.read_submit request.now.body)))) }
         ensures stopped { IfErr result (λ fault. Stopped D.Disk fault (seen self.old) disk.old disk.new (around (submits number request.now (Asking.read_submit request.now.body)))) }
         ensures sound { OnOk result (IsSound D.Disk self.new.keeping.keeper disk.new) }
+        ensures stays { OnOk result (Onward self.old self.new) }
+        ensures keeper { SameKeeper self.old.keeping.keeper self.new.keeping.keeper }
     {
         let (service, body) = match read_submit(alloc, &request.body) {
             Ok(Some(submitted)) => submitted,
@@ -198,6 +211,8 @@ impl Parts {
         ensures done { OnOk result (Did D.Disk (seen self.old) disk.old (seen self.new) disk.new outs.old.items outs.new.items (accepts number request.now (service.now, body.now)) (around (accepts number request.now (service.now, body.now)))) }
         ensures stopped { IfErr result (λ fault. Stopped D.Disk fault (seen self.old) disk.old disk.new (around (accepts number request.now (service.now, body.now)))) }
         ensures sound { OnOk result (IsSound D.Disk self.new.keeping.keeper disk.new) }
+        ensures stays { OnOk result (Onward self.old self.new) }
+        ensures keeper { SameKeeper self.old.keeping.keeper self.new.keeping.keeper }
     {
         match self.keeping.accept(alloc, disk, service, body, outs) {
             Ok(Accepted::Full) => self.tell(alloc, disk, number, request, b"500", outs),
@@ -224,6 +239,8 @@ impl Parts {
         ensures done { OnOk result (Did D.Disk (seen self.old) disk.now (seen self.new) disk.now outs.old.items outs.new.items (routes (accepted_as ticket text.now service.now number request.now)) nowhere) }
         ensures stopped { IfErr result (λ fault. Stopped D.Disk fault (seen self.old) disk.now disk.now nowhere) }
         ensures sound { OnOk result (IsSound D.Disk self.new.keeping.keeper disk.now) }
+        ensures stays { OnOk result (OpenOnward self.old self.new) }
+        ensures keeper { SameKeeper self.old.keeping.keeper self.new.keeping.keeper }
     {
         let Ok(()) = self.routing.queue_ticket(alloc, ticket, service) else {
             return Err(ActFault::NoMemory);
@@ -251,6 +268,8 @@ impl Parts {
         ensures done { OnOk result (Did D.Disk (seen self.old) disk.old (seen self.new) disk.new outs.old.items outs.new.items (fetches number request.now (Asking.read_ticket request.now.body)) (around (fetches number request.now (Asking.read_ticket request.now.body)))) }
         ensures stopped { IfErr result (λ fault. Stopped D.Disk fault (seen self.old) disk.old disk.new (around (fetches number request.now (Asking.read_ticket request.now.body)))) }
         ensures sound { OnOk result (IsSound D.Disk self.new.keeping.keeper disk.new) }
+        ensures stays { OnOk result (Onward self.old self.new) }
+        ensures keeper { SameKeeper self.old.keeping.keeper self.new.keeping.keeper }
     {
         let id = match read_ticket(&request.body) {
             Some(id) => id,
@@ -277,6 +296,8 @@ impl Parts {
         ensures done { OnOk result (Did D.Disk (seen self.old) disk.old (seen self.new) disk.new outs.old.items outs.new.items (shows_known number request.now id.now) (around (shows_known number request.now id.now))) }
         ensures stopped { IfErr result (λ fault. Stopped D.Disk fault (seen self.old) disk.old disk.new (around (shows_known number request.now id.now))) }
         ensures sound { OnOk result (IsSound D.Disk self.new.keeping.keeper disk.new) }
+        ensures stays { OnOk result (Onward self.old self.new) }
+        ensures keeper { SameKeeper self.old.keeping.keeper self.new.keeping.keeper }
     {
         let Shelf::Open(store) = &self.keeping.keeper.shelf else {
             unreachable!();
@@ -303,6 +324,8 @@ impl Parts {
         ensures done { OnOk result (Did D.Disk (seen self.old) disk.old (seen self.new) disk.new outs.old.items outs.new.items (showing number request.now ticket) (around (showing number request.now ticket))) }
         ensures stopped { IfErr result (λ fault. Stopped D.Disk fault (seen self.old) disk.old disk.new (around (showing number request.now ticket))) }
         ensures sound { OnOk result (IsSound D.Disk self.new.keeping.keeper disk.new) }
+        ensures stays { OnOk result (Onward self.old self.new) }
+        ensures keeper { SameKeeper self.old.keeping.keeper self.new.keeping.keeper }
     {
         match self.keeping.read_reply(alloc, disk, ticket, outs) {
             Ok(Some(reply)) => self.tell_reply(alloc, disk, number, request, &reply, outs),
@@ -324,6 +347,8 @@ impl Parts {
         ensures done { OnOk result (Did D.Disk (seen self.old) disk.now (seen self.new) disk.now outs.old.items outs.new.items (routes (answers number request.now (codes "200" ∷ reply.now))) nowhere) }
         ensures stopped { IfErr result (λ fault. Stopped D.Disk fault (seen self.old) disk.now disk.now nowhere) }
         ensures sound { OnOk result (IsSound D.Disk self.new.keeping.keeper disk.now) }
+        ensures stays { OnOk result (OpenOnward self.old self.new) }
+        ensures keeper { SameKeeper self.old.keeping.keeper self.new.keeping.keeper }
     {
         let Ok(body) = reply_frames(alloc, reply) else {
             return Err(ActFault::NoMemory);

@@ -1,5 +1,5 @@
 //! The dispatch of tickets.
-ghost use Rattle.std.specs.Prelude.{◌≡◌, ◌≢◌, true, None, Some, option_map, OnOk, IfErr};
+ghost use Rattle.std.specs.Prelude.{◌≡◌, ◌≢◌, true, None, Some, option_map, OnOk, IfErr, ◌+◌, ◌<◌, length};
 ghost use Rattle.mj_queue.specs.Offers.{offer_of};
 ghost use Rattle.mj_queue.specs.Settling.{pair};
 ghost use Rattle.mj_queue.specs.declared.request.Origin.TheVariants as origins;
@@ -7,6 +7,7 @@ ghost use Rattle.mj_tickets.specs.Fold.{ticket_of};
 ghost use Rattle.mj_keeper.specs.Standing.{IsOpenWith, IsSound};
 ghost use Rattle.mj_titanic.specs.Acting.{Did, Stopped, around, seen};
 ghost use Rattle.mj_titanic.specs.Services.{next_pair};
+ghost use Rattle.mj_titanic.specs.Onward.{Onward, SameKeeper};
 
 use crate::fault::ActFault;
 use crate::parts::Parts;
@@ -32,6 +33,9 @@ impl Parts {
         ensures done { OnOk result (Did D.Disk (seen self.old) disk.old (seen self.new) disk.new outs.old.items outs.new.items next_pair (around next_pair)) }
         ensures stopped { IfErr result (λ fault. Stopped D.Disk fault (seen self.old) disk.old disk.new (around next_pair)) }
         ensures sound { OnOk result (IsSound D.Disk self.new.keeping.keeper disk.new) }
+        ensures stays { OnOk result (Onward self.old self.new) }
+        ensures keeper { SameKeeper self.old.keeping.keeper self.new.keeping.keeper }
+        ensures fewer { OnOk result (length self.new.routing.waiting + length self.new.routing.queue < length self.old.routing.waiting + length self.old.routing.queue) }
     {
         match self.keeping.read_open(alloc, disk, ticket, outs) {
             Ok(Some(body)) => match self.routing.hand(alloc, body, &self.keeping.keeper, outs) {

@@ -1,3 +1,4 @@
+use Rattle.mj_titanic.proofs.OnwardLemmas.{from-open}
 use Rattle.std.proofs.Common.{ap, ◌∙◌}
 use Rattle.mj_titanic.proofs.Accepts.{if-err-map, on-ok-map}
 use Rattle.mj_titanic.specs.Accepting.{is_kept}
@@ -36,3 +37,14 @@ returns-in-Ok-Failed-clause-stopped g c =
 
 pub returns-in-Err-clause-stopped : goal.returns-in-Err-clause-stopped
 returns-in-Err-clause-stopped g c = accept-stopped g.D.Disk c.args.self.now.routing c.args.self.now.keeping c.args.disk.now c.args.number c.args.request.now c.args.service.now c.args.body.now c.requires.open _ _ (c.in-Err.ensures.stopped c.args.self.now.routing)
+
+pub returns-in-Ok-Full-clause-stays : goal.returns-in-Ok-Full-clause-stays
+returns-in-Ok-Full-clause-stays g c =
+    on-ok-map c.tell.result _ _
+    (λ s. from-open c.accept.new.self.keeper.shelf c.tell.new.self.keeping.keeper.shelf c.args.self.now.routing c.tell.new.self.routing (c.in-Ok-Full.ensures.usable ∙ ap is_kept c.in-Ok-Full.field-0-is) s c.args.self.now.keeping.keeper.shelf) c.tell.ensures.stays
+
+pub returns-in-Ok-Kept-clause-stays : goal.returns-in-Ok-Kept-clause-stays
+returns-in-Ok-Kept-clause-stays g c = on-ok-map c.tell_accepted.result _ _ (λ s. s (c.in-Ok-Kept.ensures.usable ∙ ap is_kept c.in-Ok-Kept.field-0-is) c.args.self.now.keeping.keeper.shelf) c.tell_accepted.ensures.stays
+
+pub returns-in-Ok-Failed-clause-stays : goal.returns-in-Ok-Failed-clause-stays
+returns-in-Ok-Failed-clause-stays g c = on-ok-map c.fail.result _ _ (λ s. s c.args.self.now.keeping.keeper.shelf) c.fail.ensures.stays

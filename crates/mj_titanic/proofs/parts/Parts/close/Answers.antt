@@ -65,3 +65,9 @@ returns-in-Err-clause-stopped g c =
     first-stopped g.D.Disk (seen c.args.self.now) c.args.disk.now (appending (cmds.Close c.args.ticket) quiet quiet) failed done (closing c.args.number c.args.request.now c.args.ticket) (λ v. refl) (λ v. refl)
     (appending-are g.D.Disk (seen c.args.self.now) c.args.disk.now failed done ready (cmds.Close c.args.ticket))
     _ _ (c.in-Err.ensures.stopped c.args.self.now.routing)
+
+pub returns-in-Ok-true-clause-stays : goal.returns-in-Ok-true-clause-stays
+returns-in-Ok-true-clause-stays g c = on-ok-map c.tell_closed.result _ _ (λ s. s (c.in-Ok-true.ensures.usable ∙ c.in-Ok-true.field-0-test) c.args.self.now.keeping.keeper.shelf) c.tell_closed.ensures.stays
+
+pub returns-in-Ok-false-clause-stays : goal.returns-in-Ok-false-clause-stays
+returns-in-Ok-false-clause-stays g c = on-ok-map c.fail.result _ _ (λ s. s c.args.self.now.keeping.keeper.shelf) c.fail.ensures.stays

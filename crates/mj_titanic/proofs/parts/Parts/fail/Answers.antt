@@ -1,3 +1,5 @@
+use Rattle.mj_titanic.proofs.OnwardLemmas.{dropped-onward}
+use Rattle.mj_routing.proofs.PlainLemmas.{beside-then}
 use Rattle.std.proofs.Common.{◌∷◌, [], ap}
 use Rattle.mj_titanic.specs.declared.acts.Keeping.{Keeping}
 use Rattle.mj_titanic.specs.declared.fault.ActFault.TheVariants.{NoMemory}
@@ -20,3 +22,7 @@ returns-in-Ok-clause-done g c =
 pub returns-in-Err-clause-stopped : goal.returns-in-Err-clause-stopped
 returns-in-Err-clause-stopped g c =
     stopped-still g.D.Disk NoMemory (parts (clients_alone c.args.self.now.routing) c.args.self.now.keeping) c.args.disk.now nowhere tt (λ refused. absurd refused)
+
+pub returns-in-Ok-clause-stays : goal.returns-in-Ok-clause-stays
+returns-in-Ok-clause-stays g c = λ shelf.
+    beside-then shelf c.args.self.now.keeping.keeper.shelf c.send_code.new.self.keeping.keeper.shelf c.args.self.now.routing c.drop_tickets.new.self c.send_code.new.self.routing (dropped-onward shelf c.args.self.now.keeping.keeper.shelf c.args.self.now.routing c.drop_tickets.new.self c.drop_tickets.ensures) c.in-Ok.ensures.stays

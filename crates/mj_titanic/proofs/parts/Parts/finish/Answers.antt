@@ -1,3 +1,4 @@
+use Rattle.mj_routing.proofs.PlainLemmas.{beside-then}
 use Rattle.std.proofs.Common.{ℕ, List, Option, Some, ap, ◌∙◌}
 use Rattle.std.specs.Prelude.{codes}
 use Rattle.mj_mmi.specs.Asking
@@ -49,3 +50,15 @@ returns-in-Err-clause-stopped g c =
     stopped-same g.D.Disk _ (seen c.args.self.now) c.args.disk.now _ (finishes c.args.number c.args.request.now (Some c.in-Some.id)) (finishes c.args.number c.args.request.now (Asking.read_ticket c.args.request.now.body))
     (opened-stopped g.D.Disk (seen c.args.self.now) c.args.disk.now (fails_to c.args.number c.args.request.now) (closes_known c.args.number c.args.request.now c.in-Some.id) _ _ c.in-Err.ensures.stopped)
     (λ w at. ap (λ (o : Option (List ℕ)). finishes c.args.number c.args.request.now o w) (c.in-Some.ensures))
+
+pub returns-in-Ok-true-clause-stays : goal.returns-in-Ok-true-clause-stays
+returns-in-Ok-true-clause-stays g c =
+    on-ok-map c.close_known.result _ _
+    (λ s. beside-then c.args.self.now.keeping.keeper.shelf c.open_again.new.self.keeping.keeper.shelf c.close_known.new.self.keeping.keeper.shelf c.args.self.now.routing c.open_again.new.self.routing c.close_known.new.self.routing c.in-Ok-true.ensures.stays s)
+    c.close_known.ensures.stays
+
+pub returns-in-Ok-false-clause-stays : goal.returns-in-Ok-false-clause-stays
+returns-in-Ok-false-clause-stays g c =
+    on-ok-map c.tell-in-Ok-false.result _ _
+    (λ s. beside-then c.args.self.now.keeping.keeper.shelf c.open_again.new.self.keeping.keeper.shelf c.tell-in-Ok-false.new.self.keeping.keeper.shelf c.args.self.now.routing c.open_again.new.self.routing c.tell-in-Ok-false.new.self.routing c.in-Ok-false.ensures.stays s)
+    c.tell-in-Ok-false.ensures.stays

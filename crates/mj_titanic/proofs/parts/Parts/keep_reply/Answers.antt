@@ -1,3 +1,4 @@
+use Rattle.mj_routing.proofs.PlainLemmas.{beside-then}
 use Rattle.std.proofs.Common.{◌∙◌}
 use Rattle.mj_machine.specs.Acts.{quiet}
 use Rattle.mj_titanic.specs.Acting.{seen}
@@ -25,3 +26,9 @@ returns-in-Ok-false-clause-done g c =
 
 pub returns-in-Err-clause-stopped : goal.returns-in-Err-clause-stopped
 returns-in-Err-clause-stopped g c = opened-stopped g.D.Disk (seen c.args.self.now) c.args.disk.now quiet (stores_now c.args.ticket c.args.body.now) _ _ c.in-Err.ensures.stopped
+
+pub returns-in-Ok-true-clause-stays : goal.returns-in-Ok-true-clause-stays
+returns-in-Ok-true-clause-stays g c =
+    on-ok-map c.store_now.result _ _
+    (λ s. beside-then c.args.self.now.keeping.keeper.shelf c.open_again.new.self.keeping.keeper.shelf c.store_now.new.self.keeping.keeper.shelf c.args.self.now.routing c.open_again.new.self.routing c.store_now.new.self.routing c.in-Ok-true.ensures.stays s)
+    c.store_now.ensures.stays

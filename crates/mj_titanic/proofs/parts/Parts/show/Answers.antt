@@ -53,3 +53,9 @@ returns-in-Err-clause-stopped g c =
     first-stopped g.D.Disk (seen c.args.self.now) c.args.disk.now (reading quiet quiet) (fails_to c.args.number c.args.request.now) (tells_it c.args.number c.args.request.now c.args.ticket) (showing c.args.number c.args.request.now c.args.ticket) (λ v. refl) (λ v. refl)
     (showing-are g.D.Disk (seen c.args.self.now) c.args.disk.now c.args.number c.args.request.now c.args.ticket (open-is _ c.args.self.now.keeping.keeper.shelf c.requires.open))
     _ _ (c.in-Err.ensures.stopped c.args.self.now.routing)
+
+pub returns-in-Ok-Some-clause-stays : goal.returns-in-Ok-Some-clause-stays
+returns-in-Ok-Some-clause-stays g c = on-ok-map c.tell_reply.result _ _ (λ s. s (c.in-Ok-Some.ensures.usable ∙ ap is_some c.in-Ok-Some.field-0-is) c.args.self.now.keeping.keeper.shelf) c.tell_reply.ensures.stays
+
+pub returns-in-Ok-None-clause-stays : goal.returns-in-Ok-None-clause-stays
+returns-in-Ok-None-clause-stays g c = on-ok-map c.fail.result _ _ (λ s. s c.args.self.now.keeping.keeper.shelf) c.fail.ensures.stays

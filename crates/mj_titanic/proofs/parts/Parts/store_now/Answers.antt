@@ -1,3 +1,4 @@
+use Rattle.mj_titanic.proofs.OnwardLemmas.{dropped-onward, from-open, same-onward}
 use Rattle.std.proofs.Common.{Bool, true, false, ap, refl, sym, ◌∙◌}
 use Rattle.mj_tickets.specs.declared.command.TicketCmd.TheVariants as cmds
 use Rattle.mj_machine.specs.Acts.{quiet}
@@ -31,3 +32,13 @@ pub returns-in-Err-clause-stopped : goal.returns-in-Err-clause-stopped
 returns-in-Err-clause-stopped g c =
     stopped-same g.D.Disk _ (seen c.args.self.now) c.args.disk.now _ (appending (cmds.Store c.args.ticket c.args.body.now) quiet quiet) (stores_now c.args.ticket c.args.body.now) (c.in-Err.ensures.stopped c.args.self.now.routing)
     (stores-are g.D.Disk (seen c.args.self.now) c.in-Open.store c.args.disk.now c.in-Open.is c.args.ticket c.args.body.now true (sym c.is_pending.ensures ∙ c.if-not-is_pending.false))
+
+pub returns-then-not-is_pending-clause-stays : goal.returns-then-not-is_pending-clause-stays
+returns-then-not-is_pending-clause-stays g c = same-onward c.args.self.now.keeping.keeper.shelf c.args.self.now.routing
+
+pub returns-in-Ok-true-clause-stays : goal.returns-in-Ok-true-clause-stays
+returns-in-Ok-true-clause-stays g c =
+    from-open c.store_reply.new.self.keeper.shelf c.store_reply.new.self.keeper.shelf c.args.self.now.routing c.args.self.now.routing (c.in-Ok-true.ensures.usable ∙ c.in-Ok-true.field-0-test) (same-onward c.store_reply.new.self.keeper.shelf c.args.self.now.routing) c.args.self.now.keeping.keeper.shelf
+
+pub returns-in-Ok-false-clause-stays : goal.returns-in-Ok-false-clause-stays
+returns-in-Ok-false-clause-stays g c = dropped-onward c.args.self.now.keeping.keeper.shelf c.store_reply.new.self.keeper.shelf c.args.self.now.routing c.drop_tickets.new.self c.drop_tickets.ensures

@@ -1,3 +1,4 @@
+use Rattle.mj_routing.proofs.PlainLemmas.{beside-then}
 use Rattle.std.proofs.Common.{ℕ, List, Option, Some, ap, sym, ◌∙◌}
 use Rattle.std.specs.Prelude.{codes}
 use Rattle.mj_mmi.specs.Asking
@@ -57,3 +58,15 @@ returns-in-Err-clause-stopped g c = stopped-still g.D.Disk NoMemory (seen c.args
 
 pub accept-requires-clause-body : goal.accept-requires-clause-body
 accept-requires-clause-body g c = submitted-kept c.args.request.now.body c.in-Ok-Some.submitted c.requires.body (sym c.in-Ok-Some.field-0-is ∙ c.in-Ok-Some.ensures)
+
+pub returns-in-Ok-true-clause-stays : goal.returns-in-Ok-true-clause-stays
+returns-in-Ok-true-clause-stays g c =
+    on-ok-map c.accept.result _ _
+    (λ s. beside-then c.args.self.now.keeping.keeper.shelf c.open_again.new.self.keeping.keeper.shelf c.accept.new.self.keeping.keeper.shelf c.args.self.now.routing c.open_again.new.self.routing c.accept.new.self.routing c.in-Ok-true.ensures.stays s)
+    c.accept.ensures.stays
+
+pub returns-in-Ok-false-clause-stays : goal.returns-in-Ok-false-clause-stays
+returns-in-Ok-false-clause-stays g c =
+    on-ok-map c.tell-in-Ok-false.result _ _
+    (λ s. beside-then c.args.self.now.keeping.keeper.shelf c.open_again.new.self.keeping.keeper.shelf c.tell-in-Ok-false.new.self.keeping.keeper.shelf c.args.self.now.routing c.open_again.new.self.routing c.tell-in-Ok-false.new.self.routing c.in-Ok-false.ensures.stays s)
+    c.tell-in-Ok-false.ensures.stays

@@ -1,3 +1,4 @@
+use Rattle.mj_titanic.proofs.OnwardLemmas.{queued-open}
 use Rattle.std.proofs.Common.{ap}
 use Rattle.mj_titanic.specs.declared.acts.Keeping.{Keeping}
 use Rattle.mj_titanic.specs.declared.fault.ActFault.TheVariants.{NoMemory}
@@ -22,3 +23,7 @@ returns-in-Ok-send_reply-clause-done g c =
 
 pub returns-in-Err-clause-stopped : goal.returns-in-Err-clause-stopped
 returns-in-Err-clause-stopped g c = stopped-still g.D.Disk NoMemory (seen c.args.self.now) c.args.disk.now nowhere tt (λ refused. absurd refused)
+
+pub returns-in-Ok-send_reply-clause-stays : goal.returns-in-Ok-send_reply-clause-stays
+returns-in-Ok-send_reply-clause-stays g c = λ is shelf.
+    queued-open c.args.self.now.keeping.keeper.shelf c.send_reply.new.self.keeping.keeper.shelf c.args.self.now.routing c.queue_ticket.new.self c.send_reply.new.self.routing _ is c.in-Ok.ensures c.in-Ok-send_reply.ensures.stays shelf

@@ -1,3 +1,4 @@
+use Rattle.mj_titanic.proofs.OnwardLemmas.{queued-open}
 use Rattle.std.proofs.Common.{◌∷◌, [], ap}
 use Rattle.mj_titanic.specs.declared.acts.Keeping.{Keeping}
 use Rattle.mj_titanic.specs.declared.fault.ActFault.TheVariants.{NoMemory}
@@ -18,3 +19,7 @@ returns-in-Ok-clause-done g c =
 
 pub returns-in-Err-clause-stopped : goal.returns-in-Err-clause-stopped
 returns-in-Err-clause-stopped g c = stopped-still g.D.Disk NoMemory (seen c.args.self.now) c.args.disk.now nowhere tt (λ refused. absurd refused)
+
+pub returns-in-Ok-clause-stays : goal.returns-in-Ok-clause-stays
+returns-in-Ok-clause-stays g c = λ is shelf.
+    queued-open c.args.self.now.keeping.keeper.shelf c.send_code.new.self.keeping.keeper.shelf c.args.self.now.routing c.drop_ticket.new.self c.send_code.new.self.routing _ is c.drop_ticket.ensures c.in-Ok.ensures.stays shelf
