@@ -1,5 +1,5 @@
 -- Readers of streams: where they stand, fed, added and dropped.
-use Rattle.std.proofs.Common.{◌≡◌, ◌≢◌, ◌⊎◌, ◌+◌, ◌<◌, ◌≤◌, ◌==◌, ◌++◌, ℕ, Bool, true, false, cond, List, [], ◌∷◌, length, get_or, take, slice_set, is_some, Option, None, Some, refl, sym, ap, subst, ◌∙◌, inl, inr, add-one}
+use Rattle.std.proofs.Common.{◌≡◌, ◌≢◌, ◌⊎◌, ◌+◌, ◌<◌, ◌≤◌, ◌==◌, ◌++◌, ℕ, Bool, true, false, cond, List, [], ◌∷◌, length, get_or, take, slice_set, is_some, Option, None, Some, IfSome, refl, sym, ap, subst, ◌∙◌, inl, inr, add-one}
 use Rattle.std.proofs.Math.Seq.{take-suc}
 use Rattle.std.proofs.lemmas.List.{take_all}
 use Rattle.std.specs.Option.{option_map, unwrap_or}
@@ -7,6 +7,7 @@ use Rattle.std.specs.List.{find, position}
 use Rattle.std.proofs.lemmas.Bool.Decides.{eqb_tells}
 use Rattle.std.proofs.lemmas.Option.{get_or_from_slice_get}
 use Rattle.mj_base.specs.declared.limits.Limits.{Limits}
+use Rattle.mj_wire.specs.SmallItems.{AddsSmall, AreSmallItems}
 use Rattle.mj_wire.specs.StreamItems.{gained}
 use Rattle.mj_wire.specs.WireState.{State as WireValue}
 use Rattle.mj_wire.specs.WireState.{StandsFor}
@@ -20,7 +21,7 @@ use Rattle.mj_machine.proofs.StreamLemmas.{fed-other, fed-same}
 use Rattle.mj_routing.specs.Keyed.{IsPlaceIn}
 use Rattle.mj_routing.proofs.KeyedLemmas.{place-in}
 use Rattle.mj_broker.specs.declared.wires.Link.{Link}
-use Rattle.mj_broker.specs.Wires.{AreFresh, IsLinkAt, MayBeFed, SameNumbers, WireStands, WiresStand, kept_links, rewired, stream_found, wire_of}
+use Rattle.mj_broker.specs.Wires.{AreFresh, AreLimited, IsLinkAt, MayBeFed, SameLimits, SameNumbers, WireStands, WiresStand, kept_links, rewired, stream_found, wire_of}
 
 abbrev test : ℕ → Link → Bool
 test n l = l.number == n
@@ -188,3 +189,50 @@ kept-more cs ls i x inside is there before =
 
 pub kept-whole : (cs : List Connection) (ls : List Link) (i : ℕ) → length ls ≤ i → kept_links cs (take i ls) ≡ take i ls → kept_links cs ls ≡ ls
 kept-whole cs ls i over before = subst (λ (ks : List Link). kept_links cs ks ≡ ks) (take_all i ls over) before
+
+-- ---- limits
+
+some-limits : (limits : Limits) (found : Option WireValue) (w : WireValue) → found ≡ Some w → IfSome found (λ v. v.limits ≡ limits) → w.limits ≡ limits
+some-limits limits found w is holds = subst (λ (o : Option WireValue). IfSome o (λ v. v.limits ≡ limits)) is holds
+
+pub limits-fed : (n : ℕ) (old new : WireValue) (ls now : List Link) → wire_of n ls ≡ Some old → now ≡ rewired n new ls → new.limits ≡ old.limits → SameLimits ls now
+limits-fed n old new ls now old_is now_is same limits are q = subst (λ (xs : List Link). IfSome (wire_of q xs) (λ v. v.limits ≡ limits)) (sym now_is) (at (eqb_tells n q))
+  where
+    here : IfSome (wire_of n (rewired n new ls)) (λ v. v.limits ≡ limits)
+    here = rw (rewired-same n new ls) (rw old_is (same ∙ some-limits limits (wire_of n ls) old old_is (are n)))
+
+    at : ((n == q) ≡ true × (n ≡ q)) ⊎ ((n == q) ≡ false × (n ≢ q)) → IfSome (wire_of q (rewired n new ls)) (λ v. v.limits ≡ limits)
+    at (inl agree) = subst (λ (k : ℕ). IfSome (wire_of k (rewired n new ls)) (λ v. v.limits ≡ limits)) agree.1 here
+    at (inr apart) = subst (λ (o : Option WireValue). IfSome o (λ v. v.limits ≡ limits)) (sym (rewired-other n q new (λ e. apart.1 (sym e)) ls)) (are q)
+
+pub small-fed : (n : ℕ) (old : WireValue) (ls : List Link) (before items : List WireItem) → wire_of n ls ≡ Some old → before ≡ [] → AddsSmall old.limits before items
+    → (limits : Limits) → AreLimited limits ls → AreSmallItems limits items
+small-fed n old ls before items old_is none adds limits are =
+    let is : items ≡ adds.0 = adds.1 ∙ ap (λ (xs : List WireItem). xs ++ adds.0) none in
+    subst (λ (xs : List WireItem). AreSmallItems limits xs) (sym is)
+    (subst (λ (l : Limits). AreSmallItems l adds.0) (some-limits limits (wire_of n ls) old old_is (are n)) adds.2)
+
+pub limits-kept : (cs : List Connection) (ls : List Link) (limits : Limits) → AreLimited limits ls → AreLimited limits (kept_links cs ls)
+limits-kept cs ls limits are q = rw (kept-wire cs ls q) (of (is_some (connection_of q cs)))
+  where
+    of : (b : Bool) → IfSome (cond {A = Option WireValue} b (wire_of q ls) None) (λ v. v.limits ≡ limits)
+    of true = are q
+    of false = tt
+
+-- ---- one more in front
+
+pub limits-linked : (link : Link) (ls : List Link) (limits : Limits) → link.wire.limits ≡ limits → AreLimited limits ls → AreLimited limits (link ∷ ls)
+limits-linked link ls limits is are q = of (link.number == q)
+  where
+    of : (b : Bool) → IfSome (option_map (λ l. l.wire) (cond {A = Option Link} b (Some link) (find (test q) ls))) (λ v. v.limits ≡ limits)
+    of true = is
+    of false = are q
+
+pub stands-linked : (link : Link) (ls : List Link) (limits : Limits) (n : ℕ) (streams : List Stream) → link.number ≡ n → StandsFor limits link.wire [] → WiresStand limits ls streams
+    → WiresStand limits (link ∷ ls) (record { number = n; octets = [] } ∷ streams)
+stands-linked link ls limits n streams number_is stands are q =
+    subst (λ (k : ℕ). WireStands limits (wire_of q (link ∷ ls)) (stream_found q (record { number = k; octets = [] } ∷ streams))) number_is (of (link.number == q))
+  where
+    of : (b : Bool) → WireStands limits (option_map (λ l. l.wire) (cond {A = Option Link} b (Some link) (find (test q) ls))) (cond {A = Option Stream} b (Some (record { number = link.number; octets = [] })) (stream_found q streams))
+    of true = stands
+    of false = are q

@@ -1,3 +1,5 @@
 pub mod Wires
+pub mod Acting
+pub mod Bodies
 pub mod BrokerState
 pub mod Handling

@@ -1,5 +1,5 @@
 -- The readers of streams, by the connection's number.
-use Rattle.std.specs.Prelude.{ℕ, ◌≡◌, ◌==◌, ⊤, false, is_some, List, slice_get, slice_set, Option, None, Some}
+use Rattle.std.specs.Prelude.{ℕ, ◌≡◌, ◌==◌, ⊤, false, is_some, List, slice_get, slice_set, Option, None, Some, IfSome}
 use Rattle.std.specs.Option.{option_map}
 use Rattle.std.specs.List.{filter, find}
 use Rattle.mj_base.specs.declared.limits.Limits.{Limits}
@@ -54,3 +54,11 @@ pub record IsLinkOf (n : ℕ) (links : List Link) (at : ℕ) (l : Link) : Type 0
 abbrev pub IsLinkAt : ℕ → List Link → Option ℕ → Type 0
 IsLinkAt n links None = wire_of n links ≡ None
 IsLinkAt n links (Some at) = (l : Link) × IsLinkOf n links at l
+
+-- the readers have these limits
+abbrev pub AreLimited : Limits → List Link → Type 0
+AreLimited limits links = (n : ℕ) → IfSome (wire_of n links) (λ wire. wire.limits ≡ limits)
+
+-- readers with the limits that they had
+abbrev pub SameLimits : List Link → List Link → Type 0
+SameLimits before now = (limits : Limits) → AreLimited limits before → AreLimited limits now

@@ -6,6 +6,8 @@ mod broker;
 mod fault;
 mod happen;
 mod message;
+mod rows;
+mod settle;
 mod wires;
 
 pub use broker::Broker;

@@ -8,13 +8,13 @@ ghost use Rattle.mj_machine.specs.DiskActs.{routes};
 ghost use Rattle.mj_machine.specs.Leaving.{held_by};
 ghost use Rattle.mj_machine.specs.MessageStep;
 ghost use Rattle.mj_machine.specs.MessageStep.{answers_itself, asks, begins, delivers, delivers_back, departs, queues, replied, request_of, rests, says, says_by, strays, unexpected, works, works_on};
-ghost use Rattle.mj_machine.specs.TitanicStep.{serves, titanic_of};
+ghost use Rattle.mj_machine.specs.TitanicStep.{stores};
 ghost use Rattle.mj_machine.specs.Connections.{connection_of, worker_voice};
 ghost use Rattle.mj_machine.specs.declared.connection.Role;
 ghost use Rattle.mj_keeper.specs.Standing.{IsSound, told_on};
 ghost use Rattle.mj_titanic.specs.Acting.{Stopped, around, seen};
-ghost use Rattle.mj_broker.specs.Acting.{Acted, hears, serves_client};
-ghost use Rattle.mj_broker.specs.Bodies.{IsShort, IsShortSaid};
+ghost use Rattle.mj_broker.specs.Acting.{Acted, hears, serves_client, takes_reply};
+ghost use Rattle.mj_broker.specs.Bodies.{IsShort, IsShortAct, IsShortSaid};
 
 use crate::rows;
 use mj_base::{Frames, Name, NoMemory, Octets, Out, Version};
@@ -71,7 +71,7 @@ fn say_as<D: Disk>(
         Role::Fresh => say_fresh(alloc, parts, disk, lane, number, said, outs),
         Role::Client => say_client(alloc, parts, disk, lane, number, said, outs),
         Role::Worker(registration) => {
-            say_worker(alloc, parts, disk, lane, number, registration, said, outs)
+            say_worker(alloc, parts, disk, number, registration, said, outs)
         }
     }
 }
@@ -143,7 +143,6 @@ fn say_worker<D: Disk>(
     alloc: Global,
     parts: &mut Parts,
     disk: &mut D,
-    _lane: u32,
     number: u64,
     registration: Registration,
     said: Said,
@@ -151,8 +150,8 @@ fn say_worker<D: Disk>(
 ) -> Result<(), ActFault>
     requires short { (told_on parts.old.keeping.keeper.shelf).stored ≡ true → IsShortSaid said }
     requires sound { IsSound D.Disk parts.old.keeping.keeper disk.old }
-    ensures acted { OnOk result (Acted D.Disk parts.old disk.old parts.new disk.new outs.old.items outs.new.items (says _lane number (Role.Worker registration) said) (around (says _lane number (Role.Worker registration) said))) }
-    ensures stopped { IfErr result (λ fault. Stopped D.Disk fault (seen parts.old) disk.old disk.new (around (says _lane number (Role.Worker registration) said))) }
+    ensures acted { OnOk result ((lane : ℕ) → Acted D.Disk parts.old disk.old parts.new disk.new outs.old.items outs.new.items (says lane number (Role.Worker registration) said) (around (says lane number (Role.Worker registration) said))) }
+    ensures stopped { IfErr result (λ fault. (lane : ℕ) → Stopped D.Disk fault (seen parts.old) disk.old disk.new (around (says lane number (Role.Worker registration) said))) }
     ensures keeper { parts.new.keeping.keeper ≡ record parts.old.keeping.keeper { shelf = parts.new.keeping.keeper.shelf } }
 {
     match said {
@@ -365,6 +364,27 @@ fn pass_on<D: Disk>(
             }
         }
     }
+}
+
+/// Stores the final reply to this ticket.
+fn keep<D: Disk>(
+    alloc: Global,
+    parts: &mut Parts,
+    disk: &mut D,
+    number: u64,
+    body: &Frames,
+    outs: &mut Vec<Out>,
+) -> Result<(), ActFault>
+    requires short { (told_on parts.old.keeping.keeper.shelf).stored ≡ true → IsShort body.now }
+    requires sound { IsSound D.Disk parts.old.keeping.keeper disk.old }
+    ensures acted { OnOk result (Acted D.Disk parts.old disk.old parts.new disk.new outs.old.items outs.new.items (stores number body.now) (around (stores number body.now))) }
+    ensures stopped { IfErr result (λ fault. Stopped D.Disk fault (seen parts.old) disk.old disk.new (around (stores number body.now))) }
+    ensures keeper { parts.new.keeping.keeper ≡ record parts.old.keeping.keeper { shelf = parts.new.keeping.keeper.shelf } }
+{
+    if !parts.keeping.keeper.is_stored() {
+        return Ok(());
+    }
+    parts.keep_reply(alloc, disk, number, body, outs)
 }
 
 /// A command that the sender's role doesn't allow: the connection is passed over from now on, and is told so.

@@ -1,11 +1,12 @@
 //! The readers of the connections' streams, looked up by the connection's number.
 ghost use Rattle.std.specs.Prelude.{◌≡◌, ◌==◌, ℕ, List, [], true, position, None, IsSome, IfOk, OnOk};
 ghost use Rattle.mj_base.specs.declared.limits.Limits.{Limits as ALimits};
+ghost use Rattle.mj_wire.specs.SmallItems.{AreSmallItems};
 ghost use Rattle.mj_wire.specs.StreamItems.{gained};
 ghost use Rattle.mj_wire.specs.WireState.{State as WireValue};
 ghost use Rattle.mj_machine.specs.MachineState.{Stream};
 ghost use Rattle.mj_machine.specs.EventStep.{fed, stream_of};
-ghost use Rattle.mj_broker.specs.Wires.{AreFresh, IsLinkAt, SameNumbers, WiresStand, kept_links, wire_of};
+ghost use Rattle.mj_broker.specs.Wires.{AreFresh, AreLimited, IsLinkAt, SameLimits, SameNumbers, WiresStand, kept_links, wire_of};
 
 use mj_base::NoMemory;
 use mj_routing::Routing;
@@ -46,6 +47,8 @@ pub fn feed(
     ensures stand { OnOk result ((limits : ALimits) (streams : List Stream) → WiresStand limits links.old.items streams
         → WiresStand limits links.new.items (fed number piece.now streams)) }
     ensures fresh { OnOk result (AreFresh links.new.items) }
+    ensures limits { OnOk result (SameLimits links.old.items links.new.items) }
+    ensures small { IfOk result (λ items. (limits : ALimits) → AreLimited limits links.old.items → AreSmallItems limits items.items) }
     ensures numbers { OnOk result (SameNumbers links.old.items links.new.items) }
 {
     let at = place_of(links, number).unwrap();

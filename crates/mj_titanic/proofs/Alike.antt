@@ -89,7 +89,7 @@ pub record HasTicket (store : Store) (n : ℕ) : Type 0 where
   pub found : ticket_of n (tickets_of store) ≡ Some ticket
 
 module _ (store : Store) (index : Fold Place) (is : index_of store.base store.commands ≡ Some index) where
-  alike : AreAlike store.base store.commands index
+  pub alike : AreAlike store.base store.commands index
   alike = are-alike store.base store.commands index is
 
   pub pends-alike : (n : ℕ) → pends n index ≡ pends n (tickets_of store)
@@ -123,3 +123,12 @@ module _ (store : Store) (index : Fold Place) (is : index_of store.base store.co
       by : (o : Option (Ticket Housed)) → ticket_of n alike.both ≡ o → HasTicket store n
       by None none = absurd (there (in-index ∙ ap (option_map (mapped place_at)) none))
       by (Some t) some = record { ticket = mapped body_at t; fold = fold; found = in-tickets ∙ ap (option_map (mapped body_at)) some }
+
+  -- the machine has no open ticket of this number
+  pub none-both : (n : ℕ) → ticket_of n index ≡ None → ticket_of n (tickets_of store) ≡ None
+  none-both n none = by (ticket_of n alike.both) (sym (ap (ticket_of n) (sym alike.places) ∙ find-map place_at n alike.both.tickets) ∙ none)
+      (ap (ticket_of n) (tickets-are store index alike) ∙ find-map body_at n alike.both.tickets)
+    where
+      by : (o : Option (Ticket Housed)) → option_map (mapped place_at) o ≡ None → ticket_of n (tickets_of store) ≡ option_map (mapped body_at) o → ticket_of n (tickets_of store) ≡ None
+      by None e is = is
+      by (Some t) e is = cc

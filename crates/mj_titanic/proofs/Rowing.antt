@@ -1,9 +1,7 @@
 -- An act on the disk, and what follows it.
-use Rattle.std.proofs.Common.{◌≡◌, ◌⊎◌, ◌+◌, ◌≤◌, ℕ, List, [], ◌∷◌, ◌++◌, Option, refl, sym, ap, subst, ◌∙◌, inl, inr}
+use Rattle.std.proofs.Common.{◌≡◌, ◌⊎◌, ℕ, List, [], ◌∷◌, ◌++◌, refl, sym, ap, subst, ◌∙◌, inl, inr}
 use Rattle.std.proofs.lemmas.List.{append-nil}
-use Rattle.mj_base.specs.declared.event.Note.{Note}
 use Rattle.mj_base.specs.declared.event.Out.{Out}
-use Rattle.mj_disk.specs.DiskModel.{History}
 use Rattle.mj_disk.specs.declared.disk.Disk.{Ghosts}
 use Rattle.mj_disk.proofs.Moments.{leaves_weaker}
 use Rattle.mj_machine.specs.StoreState.{Store}
@@ -12,8 +10,8 @@ use Rattle.mj_machine.specs.Acts.{Doing, quiet, ◌then◌}
 use Rattle.mj_machine.specs.DiskActs.{opening}
 use Rattle.mj_titanic.specs.declared.fault.ActFault.{ActFault}
 use Rattle.mj_keeper.specs.Standing.{GoesOn, IsOneOf, MayLeave}
-use Rattle.mj_titanic.specs.Acting.{Agree, Did, Ends, IsAt, Parts, Stopped, around, nowhere}
-use Rattle.mj_titanic.proofs.Composing.{did-as, did-stopped, did-then, one-of-first, one-of-second, stopped-as, stopped-then}
+use Rattle.mj_titanic.specs.Acting.{Did, IsAt, Parts, Stopped, around, nowhere}
+use Rattle.mj_titanic.proofs.Composing.{did-as, did-stopped, did-then, one-of-first, one-of-second, stopped-as}
 use Rattle.mj_titanic.proofs.Continuing.{KeepsStore, after, opening-after, opening-leaves}
 
 -- each image of the one list is one of the other
@@ -37,7 +35,7 @@ among-behind all xs ys among image is = by (one-of-both all xs image is)
     by (inr b) = one-of-second all ys image (among image b)
 
 module _ {D : Type 0} (disks : Ghosts D) where
-  goes-among : (disk after : D) (xs ys : List Store) → AreAmong xs ys → GoesOn disks disk after xs → GoesOn disks disk after ys
+  pub goes-among : (disk after : D) (xs ys : List Store) → AreAmong xs ys → GoesOn disks disk after xs → GoesOn disks disk after ys
   goes-among disk after xs ys among one start before all leaves =
       leaves_weaker (start, disks.time after) before (disks.told after) (IsOneOf (all ++ xs)) (IsOneOf (all ++ ys)) (one start before all leaves) (among-behind all xs ys among)
 

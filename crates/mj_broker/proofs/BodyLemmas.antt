@@ -1,0 +1,201 @@
+-- Each body of a message within the lawful limits can be kept.
+use Rattle.std.proofs.Common.{◌≡◌, ◌+◌, ◌*◌, ◌≤◌, ◌&&◌, ℕ, Bool, true, false, cond, nat_le, List, [], ◌∷◌, ◌++◌, length, sum_by, Option, None, Some, IfSome, refl, sym, ap, subst, ◌∙◌, arith, length-append}
+use Rattle.std.specs.Option.{option_map}
+use Rattle.std.specs.Int.{to_be_bytes, w16, w32}
+use Rattle.std.specs.List.{AllByRecursion}
+use Rattle.std.specs.Str.{bytes_eq}
+use Rattle.std.proofs.lemmas.Bool.Decides.{nat_tests}
+use Rattle.std.proofs.lemmas.List.Sums.{sum_by-cons}
+use Rattle.mj_base.specs.LawfulLimits.{are_lawful}
+use Rattle.mj_base.specs.ServiceName.{is_service_name}
+use Rattle.mj_base.specs.declared.limits.Limits.{Limits}
+use Rattle.mj_base.specs.declared.version.Version.{Version}
+use Rattle.mj_base.specs.declared.version.Version.TheVariants.{One, Two}
+use Rattle.mj_opening.specs.Opening.{Begun, begun, behind_empty, opening_of, version_of, word_of}
+use Rattle.mj_opening.specs.declared.party.Party.{Party}
+use Rattle.mj_opening.specs.declared.party.Party.TheVariants.{Clients, Workers}
+use Rattle.mj_client_cmd.specs.ClientReading.{client_of, named, request, request_begun, request_in, request_rest}
+use Rattle.mj_client_cmd.specs.declared.command.ClientCmd.{ClientCmd}
+use Rattle.mj_worker_cmd.specs.WorkerReading.{bare_of, envelope_of, ready_of, reply_of, worker_act, worker_begun, worker_cmd, worker_coded, worker_in, worker_of}
+use Rattle.mj_worker_cmd.specs.declared.command.WorkerAct.{WorkerAct}
+use Rattle.mj_worker_cmd.specs.declared.command.WorkerAct.TheVariants as act
+use Rattle.mj_worker_cmd.specs.declared.command.WorkerCmd.{WorkerCmd}
+use Rattle.mj_worker_cmd.specs.declared.kind.WorkerKind.{WorkerKind}
+use Rattle.mj_worker_cmd.specs.declared.kind.WorkerKind.TheVariants as kinds
+use Rattle.mj_worker_cmd.specs.Codes.{worker_kind}
+use Rattle.mj_tickets.specs.Payload.{body_text, count_octets, frames_text, length_octets}
+use Rattle.mj_store.specs.Commands.{CanBeKept}
+use Rattle.mj_machine.specs.MessageStep.{said_by, said_in}
+use Rattle.mj_machine.specs.declared.said.Said.{Said}
+use Rattle.mj_wire.specs.StreamCuts.{IsSmallMessage}
+use Rattle.mj_wire.specs.SmallItems.{AreSmallItems, IsSmallItem}
+use Rattle.mj_wire.specs.declared.item.WireItem.{WireItem}
+use Rattle.mj_wire.specs.declared.item.WireItem.TheVariants as items
+use Rattle.mj_broker.specs.Bodies.{AreShort, IsShort, IsShortAct, IsShortItem, IsShortSaid}
+
+-- ---- its text
+
+length-length : (n : ℕ) → length (length_octets n) ≡ 4
+unfolding length_octets
+length-length n = refl
+
+length-count : (n : ℕ) → length (count_octets n) ≡ 2
+unfolding count_octets
+length-count n = refl
+
+frames-length : (body : List (List ℕ)) → length (frames_text body) ≡ sum_by length body + 4 * length body
+frames-length [] = refl
+frames-length (f ∷ fs) =
+    let rest = frames-length fs in
+    let outer = length-append (length_octets (length f)) (f ++ frames_text fs) in
+    let inner = length-append f (frames_text fs) in
+    let four = length-length (length f) in
+    let sum = sum_by-cons length f fs in
+    omega (arith, rest, outer, inner, four, sum)
+
+pub short-kept : (body : List (List ℕ)) → IsShort body → CanBeKept body
+short-kept body is =
+    let all = length-append (count_octets (length body)) (frames_text body) in
+    let two = length-count (length body) in
+    let frames = frames-length body in
+    record { counted = omega (arith, is.0); short = omega (arith, is.0, is.1, all, two, frames) }
+
+-- ---- frames behind the first ones
+
+rest-short : (f : List ℕ) (fs : List (List ℕ)) → IsShort (f ∷ fs) → IsShort fs
+rest-short f fs is = let sum = sum_by-cons length f fs in (omega (arith, is.0), omega (arith, is.1, sum))
+
+abbrev IsShortBegun : Option Begun → Type 0
+IsShortBegun o = IfSome o (λ b. IsShort b.rest)
+
+behind-short : (party : Party) (m : List (List ℕ)) → IsShort m → IsShortBegun (behind_empty party m)
+behind-short party [] is = tt
+behind-short party (word ∷ rest) is = by (version_of party word) (rest-short word rest is)
+  where
+    by : (o : Option Version) → IsShort rest → IsShortBegun (option_map (begun true rest) o)
+    by None short = tt
+    by (Some version) short = short
+
+opening-short : (party : Party) (m : List (List ℕ)) → IsShort m → IsShortBegun (opening_of party m)
+opening-short party [] is = tt
+opening-short party (first ∷ rest) is = by (bytes_eq first (word_of party Two)) (bytes_eq first []) (rest-short first rest is) (behind-short party rest (rest-short first rest is))
+  where
+    by : (b e : Bool) → IsShort rest → IsShortBegun (behind_empty party rest) → IsShortBegun (cond {A = Option Begun} b (Some (begun false rest Two)) (cond {A = Option Begun} e (behind_empty party rest) None))
+    by true e short behind = short
+    by false true short behind = behind
+    by false false short behind = tt
+
+-- ---- a client's
+
+named-short : (version : Version) (lead : Bool) (rest : List (List ℕ)) → IsShort rest → IfSome (option_map (request version lead) (named rest)) (λ cmd. IsShort cmd.body)
+named-short version lead [] is = tt
+named-short version lead (service ∷ body) is = by (is_service_name service) (rest-short service body is)
+  where
+    by : (b : Bool) → IsShort body → IfSome (option_map (request version lead) (cond {A = Option (List ℕ × List (List ℕ))} b (Some (service, body)) None)) (λ cmd. IsShort cmd.body)
+    by true short = short
+    by false short = tt
+
+coded-short : (version : Version) (lead : Bool) (of : Version) (rest : List (List ℕ)) → IsShort rest → IfSome (request_in version lead (request_rest of rest)) (λ cmd. IsShort cmd.body)
+coded-short version lead One rest is = named-short version lead rest is
+coded-short version lead Two [] is = tt
+coded-short version lead Two (code ∷ rest) is = by (bytes_eq code (1 ∷ [])) (rest-short code rest is)
+  where
+    by : (b : Bool) → IsShort rest → IfSome (request_in version lead (cond {A = Option (List (List ℕ))} b (Some rest) None)) (λ cmd. IsShort cmd.body)
+    by true short = named-short version lead rest short
+    by false short = tt
+
+client-short : (message : List (List ℕ)) → IsShort message → IfSome (client_of message) (λ cmd. IsShort cmd.body)
+client-short message is = by (opening_of Clients message) (opening-short Clients message is)
+  where
+    by : (o : Option Begun) → IsShortBegun o → IfSome (request_begun o) (λ cmd. IsShort cmd.body)
+    by None short = tt
+    by (Some b) short = coded-short b.version b.lead b.version b.rest short
+
+-- ---- a worker's
+
+abbrev IsShortDone : Option WorkerAct → Type 0
+IsShortDone o = IfSome o IsShortAct
+
+short-if : {X : Type 0} (P : X → Type 0) (b : Bool) (x : X) → P x → IfSome (cond {A = Option X} b (Some x) None) P
+short-if P true x holds = holds
+short-if P false x holds = tt
+
+short-map : {X : Type 0} (P : X → Type 0) (f : X → WorkerAct) → ((x : X) → P x → IsShortAct (f x)) → (o : Option X) → IfSome o P → IsShortDone (option_map f o)
+short-map P f same None holds = tt
+short-map P f same (Some x) holds = same x holds
+
+envelope-short : (rest : List (List ℕ)) → IsShort rest → IfSome (envelope_of rest) (λ e. IsShort e.body)
+envelope-short [] is = tt
+envelope-short (address ∷ []) is = tt
+envelope-short (address ∷ empty ∷ body) is = short-if _ (bytes_eq empty []) _ (rest-short empty body (rest-short address (empty ∷ body) is))
+
+reply-short : (last : Bool) (rest : List (List ℕ)) → IsShort rest → IsShortDone (reply_of last rest)
+reply-short last rest is = short-map _ _ (λ e short. short) (envelope_of rest) (envelope-short rest is)
+
+ready-short : (rest : List (List ℕ)) → IsShortDone (ready_of rest)
+ready-short [] = tt
+ready-short (service ∷ []) = by (is_service_name service)
+  where
+    by : (b : Bool) → IsShortDone (cond {A = Option WorkerAct} b (Some (act.Ready service)) None)
+    by true = tt
+    by false = tt
+ready-short (service ∷ next ∷ rest) = tt
+
+bare-short : (does : WorkerAct) (rest : List (List ℕ)) → IsShortAct does → IsShortDone (bare_of does rest)
+bare-short does [] short = short
+bare-short does (frame ∷ rest) short = tt
+
+act-short : (kind : WorkerKind) (rest : List (List ℕ)) → IsShort rest → IsShortDone (worker_act kind rest)
+act-short kinds.Ready rest is = ready-short rest
+act-short (kinds.Reply last) rest is = reply-short last rest is
+act-short kinds.Heartbeat rest is = bare-short act.Heartbeat rest tt
+act-short kinds.Disconnect rest is = bare-short act.Disconnect rest tt
+
+code-short : (version : Version) (rest : List (List ℕ)) → IsShort rest → IsShortDone (worker_coded version rest)
+code-short version [] is = tt
+code-short version (code ∷ rest) is = by (worker_kind version code) (rest-short code rest is)
+  where
+    by : (o : Option WorkerKind) → IsShort rest → IsShortDone (worker_in o rest)
+    by None short = tt
+    by (Some kind) short = act-short kind rest short
+
+worker-short : (message : List (List ℕ)) → IsShort message → IfSome (worker_of message) (λ cmd. IsShortAct cmd.act)
+worker-short message is = by (opening_of Workers message) (opening-short Workers message is)
+  where
+    done : (version : Version) (lead : Bool) (o : Option WorkerAct) → IsShortDone o → IfSome (option_map (worker_cmd version lead) o) (λ cmd. IsShortAct cmd.act)
+    done version lead None short = tt
+    done version lead (Some does) short = short
+
+    by : (o : Option Begun) → IsShortBegun o → IfSome (worker_begun o) (λ cmd. IsShortAct cmd.act)
+    by None short = tt
+    by (Some b) short = done b.version b.lead (worker_coded b.version b.rest) (code-short b.version b.rest short)
+
+-- ---- what was said
+
+pub said-short : (message : List (List ℕ)) → IsShort message → IsShortSaid (said_in message)
+said-short message is = by (client_of message) (worker_of message) (client-short message is) (worker-short message is)
+  where
+    by : (client : Option ClientCmd) (worker : Option WorkerCmd) → IfSome client (λ cmd. IsShort cmd.body) → IfSome worker (λ cmd. IsShortAct cmd.act) → IsShortSaid (said_by client worker)
+    by (Some cmd) worker short other = short
+    by None (Some cmd) short other = other
+    by None None short other = tt
+
+-- ---- items of a wire with lawful limits
+
+pub lawful-most : (limits : Limits) → are_lawful limits ≡ true → (limits.frames ≤ 260) × (limits.message ≤ 1049600)
+lawful-most limits is = by (nat_le limits.frames 260) (nat_le limits.message 1049600) refl refl is
+  where
+    by : {rest : Bool} (a b : Bool) → nat_le limits.frames 260 ≡ a → nat_le limits.message 1049600 ≡ b → (a && (b && rest)) ≡ true → (limits.frames ≤ 260) × (limits.message ≤ 1049600)
+    by true true frames message e = (grind (arith, nat_tests), grind (arith, nat_tests))
+    by true false frames message e = cc
+    by false b frames message e = cc
+
+item-short : (limits : Limits) → are_lawful limits ≡ true → (item : WireItem) → IsSmallItem limits item → IsShortItem item
+item-short limits lawful items.Accepted small = tt
+item-short limits lawful (items.Ready kind) small = tt
+item-short limits lawful (items.Message message) small = let most = lawful-most limits lawful in (omega (arith, small.0, most.0), omega (arith, small.1, most.1))
+item-short limits lawful (items.Ended reason at) small = tt
+
+pub items-short : (limits : Limits) → are_lawful limits ≡ true → (found : List WireItem) → AreSmallItems limits found → AreShort found
+items-short limits lawful [] small = tt
+items-short limits lawful (item ∷ found) small = (item-short limits lawful item small.0, items-short limits lawful found small.1)

@@ -1,0 +1,13 @@
+use Rattle.mj_keeper.specs.Standing.{told_on}
+use Rattle.mj_machine.specs.EventStep.{ends_at}
+use Rattle.mj_routing.proofs.PlainLemmas.{plain-ends_at}
+use Rattle.mj_broker.proofs.Lifting.{halted, lifted}
+use Rattle.mj_broker.proofs.happen.end_at.Goals as goal
+
+pub returns-in-Ok-clause-acted : goal.returns-in-Ok-clause-acted
+returns-in-Ok-clause-acted g c =
+    lifted g.D.Disk c.args.parts.now c.args.disk.now c.requires.sound c.route_end.new.routing c.args.outs.now.items c.route_end.new.outs.items (ends_at c.args.number c.args.reason c.args.at)
+    (plain-ends_at (told_on c.args.parts.now.keeping.keeper.shelf) c.args.number c.args.reason c.args.at c.args.parts.now.routing) c.in-Ok.ensures
+
+pub returns-in-Err-clause-stopped : goal.returns-in-Err-clause-stopped
+returns-in-Err-clause-stopped g c = halted g.D.Disk c.args.parts.now c.args.disk.now _
