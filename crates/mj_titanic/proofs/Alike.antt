@@ -89,7 +89,7 @@ pub record HasTicket (store : Store) (n : ℕ) : Type 0 where
   pub found : ticket_of n (tickets_of store) ≡ Some ticket
 
 module _ (store : Store) (index : Fold Place) (is : index_of store.base store.commands ≡ Some index) where
-  alike : AreAlike store.base store.commands index
+  pub alike : AreAlike store.base store.commands index
   alike = are-alike store.base store.commands index is
 
   pub pends-alike : (n : ℕ) → pends n index ≡ pends n (tickets_of store)

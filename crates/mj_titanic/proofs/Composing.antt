@@ -240,3 +240,22 @@ module _ {D : Type 0} (disks : Ghosts D) where
   pub stopped-unmoved : (fault : ActFault) (old : Parts) (disk after : D) (stores : Whole → List Store) → after ≡ disk → IsActFault fault → (IsRefused fault → disks.told disk ≡ None) → Stopped disks fault old disk after stores
   stopped-unmoved fault old disk after stores same kind refused =
       subst (λ (d : D). Stopped disks fault old disk d stores) (sym same) (stopped-still fault old disk stores kind refused)
+
+  -- it was done, and then given up
+  pub did-given-up : (old : Parts) (disk : D) (new : Parts) (after : D) (before outs : List Out) (f : Act) (s : Whole → List Store) → Did disks old disk new after before outs f s
+      → (fault : ActFault) → IsActFault fault → (IsRefused fault → disks.told disk ≡ None) → Stopped disks fault old disk after s
+  did-given-up old disk new after before outs f s did fault kind refused = record {
+    some = notes_in did.added;
+    upto = new.acts;
+    given = did.given;
+    crash = did.crash;
+    count = did.count.0;
+    kind = kind;
+    refused = refused;
+    plain = λ absent. (did.plain absent).1;
+  }
+
+  -- to the same parts
+  pub did-to : (old : Parts) (disk : D) (new same : Parts) (after : D) (before outs : List Out) (f : Act) (s : Whole → List Store) → new ≡ same → Did disks old disk new after before outs f s
+      → Did disks old disk same after before outs f s
+  did-to old disk new same after before outs f s is did = subst (λ (p : Parts). Did disks old disk p after before outs f s) is did

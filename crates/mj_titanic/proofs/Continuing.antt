@@ -1,13 +1,12 @@
 -- What follows an act on the disk, by whether the store is open behind it.
-use Rattle.std.proofs.Common.{◌≡◌, ℕ, Bool, true, false, List, [], ◌∷◌, ◌++◌, Option, None, Some, refl, sym, ap, ◌∙◌, inl, inr, ◌⊎◌, subst}
+use Rattle.std.proofs.Common.{◌≡◌, ℕ, Bool, true, false, List, Option, None, Some, refl, sym, ap, inl, inr, subst}
 use Rattle.std.proofs.lemmas.List.{append-nil}
-use Rattle.mj_base.specs.declared.event.Out.{Out}
 use Rattle.mj_tickets.specs.declared.command.TicketCmd.{TicketCmd}
 use Rattle.mj_store.specs.Commands.{OpensFor}
-use Rattle.mj_machine.specs.StoreState.{Access, IsShut, Open, Shut, Store, Told, doubted, usable}
-use Rattle.mj_machine.specs.MachineState.{Act, Done, State, Whole}
-use Rattle.mj_machine.specs.Acts.{Doing, behind, quiet, ◌then◌}
-use Rattle.mj_machine.specs.DiskActs.{appended, appending, attempted, counted, fails, finds, found_in, opening, opening_again, opening_by, reading, reopened, reopens, routes, shuts, with_found}
+use Rattle.mj_machine.specs.StoreState.{Access, IsShut, Open, Shut, usable}
+use Rattle.mj_machine.specs.MachineState.{Act, Whole}
+use Rattle.mj_machine.specs.Acts.{quiet, ◌then◌}
+use Rattle.mj_machine.specs.DiskActs.{appended, appending, attempted, counted, fails, finds, found_in, opening, opening_again, opening_by, reading, reopened, with_found}
 use Rattle.mj_keeper.specs.Standing.{MayLeave}
 
 abbrev pub after_by : Access → Act → Act → Act

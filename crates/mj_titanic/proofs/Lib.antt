@@ -9,3 +9,11 @@ pub mod Telling
 pub mod Continuing
 pub mod Rowing
 pub mod Routed
+pub mod Following
+pub mod Finding
+pub mod Showing
+pub mod Known
+pub mod Handing
+pub mod Naming
+pub mod Taking
+pub mod OnwardLemmas

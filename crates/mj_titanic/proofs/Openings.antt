@@ -15,18 +15,18 @@ use Rattle.mj_journal.specs.FileText.{end_of}
 use Rattle.mj_store.specs.Opening.{FindsDoubt, IsRefusal, LeavesInDoubt, NoneInDoubt, StaysInDoubt, found_if, has_moved}
 use Rattle.mj_store.specs.Standing.{Holds, IsHeld, IsInDoubt, IsTelling, StoreValue}
 use Rattle.mj_queue.specs.declared.request.Request.{Request}
-use Rattle.mj_machine.specs.StoreState.{Access, IsShut, Open, Shut, Store, doubted, tickets_of, waiting_tickets}
-use Rattle.mj_machine.specs.MachineState.{Act, State, Whole}
+use Rattle.mj_machine.specs.StoreState.{Access, IsShut, Open, Shut, Store, doubted}
+use Rattle.mj_machine.specs.MachineState.{State, Whole}
 use Rattle.mj_machine.specs.Acts.{quiet, ◌then◌}
-use Rattle.mj_machine.specs.DiskActs.{clients_alone, fails, finds, found_in, opening, opening_again, opening_by, reopened, reopens, says_found, says_shut, shuts, with_found}
+use Rattle.mj_machine.specs.DiskActs.{clients_alone, fails, finds, found_in, opening, opening_again, opening_by, reopened, reopens, says_found, says_shut, with_found}
 use Rattle.mj_machine.proofs.ConnectionLemmas.{agrees, equal}
 use Rattle.mj_keeper.specs.declared.keeper.Keeper.{Keeper}
 use Rattle.mj_keeper.specs.declared.keeper.Shelf.{Shelf}
 use Rattle.mj_keeper.specs.declared.keeper.Shelf.TheVariants as shelves
-use Rattle.mj_keeper.specs.Standing.{GoesOn, IsOneOf, IsSound, Sees, StandsBy}
+use Rattle.mj_keeper.specs.Standing.{GoesOn, IsOneOf, IsSound, Sees, StandsBy, is_open, told_on}
 use Rattle.mj_titanic.specs.Acting.{Agree, AreOf, Did, Ends, IsAt, Parts, Stopped, around, IsActFault, IsRefused}
 use Rattle.mj_titanic.specs.declared.fault.ActFault.{ActFault}
-use Rattle.mj_titanic.specs.Reopening.{with_waiting}
+use Rattle.mj_titanic.specs.Reopening.{core_opened, core_reopened, with_waiting}
 use Rattle.mj_titanic.proofs.Alike.{waiting-alike}
 use Rattle.mj_titanic.proofs.Attempts.{none-given, opens-on, shut-given, silent-before, tells-none, tells-on}
 use Rattle.mj_titanic.proofs.Composing.{goes-more, goes-nowhere, one-of-first, one-of-second}
@@ -269,3 +269,18 @@ module _ {D : Type 0} (disks : Ghosts D) (keeper : Keeper) (end : ℕ) (disk : D
   refused-silent fault refusal none =
       let o = shut-on disks keeper end disk sound.0 is sound.1.by in
       tells-none (disks.told disk) (λ tells. none refusal tells sound.0.base sound.0.commands (doubted sound.0.access) end o.doubt)
+
+-- ---- by whether it is open
+
+pub opening-kept : {D : Type 0} (disks : Ghosts D) (old : Parts) (disk : D) (before : List Out) → is_open old.keeper.shelf ≡ true → Did disks old disk old disk before before (opening quiet quiet) (around (opening quiet quiet))
+opening-kept disks old disk before is = by old.keeper.shelf refl is
+  where
+    by : (s : Shelf) → old.keeper.shelf ≡ s → is_open s ≡ true → Did disks old disk old disk before before (opening quiet quiet) (around (opening quiet quiet))
+    by shelves.Absent at open_is = absurd (cc open_is)
+    by (shelves.Open held) at open_is = opening-open disks old old held disk before at refl
+    by (shelves.Shut end) at open_is = absurd (cc open_is)
+
+pub reopened-core : (shelf new : Shelf) (core : State) → is_open shelf ≡ false → (told_on shelf).stored ≡ true → core_reopened shelf new core ≡ core_opened new core
+reopened-core shelves.Absent new core shut_is stored = absurd (cc stored)
+reopened-core (shelves.Open held) new core shut_is stored = absurd (cc shut_is)
+reopened-core (shelves.Shut end) new core shut_is stored = refl

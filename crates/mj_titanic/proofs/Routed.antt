@@ -1,20 +1,27 @@
 -- What is routed, as an act of the machine.
-use Rattle.std.proofs.Common.{◌≡◌, ◌+◌, ◌≤◌, ℕ, Bool, true, false, List, [], ◌∷◌, ◌++◌, length, Option, None, Some, refl, sym, ap, subst, ◌∙◌, arith}
+use Rattle.std.proofs.Common.{◌≡◌, ℕ, Bool, true, false, List, [], ◌∷◌, ◌++◌, length, Option, None, Some, refl, sym, ap, subst, ◌∙◌, arith}
 use Rattle.mj_base.specs.declared.event.Note.{Note}
 use Rattle.mj_base.specs.declared.event.Out.{Out}
 use Rattle.mj_disk.specs.declared.disk.Disk.{Ghosts}
 use Rattle.mj_machine.specs.declared.connection.Connection.{Connection}
-use Rattle.mj_machine.specs.StoreState.{Access, IsShut, Open, Shut, Store, Told, told_by, usable}
-use Rattle.mj_machine.specs.MachineState.{Act, Done, State, Whole}
-use Rattle.mj_machine.specs.Connections.{connection_of}
-use Rattle.mj_machine.specs.DiskActs.{notes_in, routed, routes}
-use Rattle.mj_machine.specs.Sending.{is_slow, sends, sends_if, sends_to}
+use Rattle.mj_machine.specs.StoreState.{IsShut, Told, ticket_request, told_by, usable}
+use Rattle.mj_machine.specs.MachineState.{Done, State, Whole}
+use Rattle.mj_machine.specs.Connections.{connection_of, voice_of}
+use Rattle.mj_machine.specs.DiskActs.{notes_in, routes}
+use Rattle.mj_machine.specs.Sending.{is_slow, reply_text, sends, sends_if, sends_to}
+use Rattle.mj_machine.specs.Pairing.{handed, hands, request_text, with_body}
+use Rattle.mj_machine.specs.TitanicStep.{answers, closed}
+use Rattle.mj_queue.specs.Settling.{Pair, without_ticket}
+use Rattle.mj_queue.specs.declared.request.Request.{Request}
+use Rattle.mj_titanic.specs.Services.{accepted_as}
+use Rattle.std.specs.Prelude.{codes}
 use Rattle.mj_routing.specs.RoutingState.{Does}
 use Rattle.mj_keeper.specs.declared.keeper.Keeper.{Keeper}
 use Rattle.mj_keeper.specs.declared.keeper.Shelf.{Shelf}
 use Rattle.mj_keeper.specs.declared.keeper.Shelf.TheVariants as shelves
 use Rattle.mj_keeper.specs.Standing.{Sees, StandsBy, is_open, told_on}
-use Rattle.mj_titanic.specs.Acting.{AreOf, Did, Ends, IsAt, Parts, RoseBy, nowhere, shut_count}
+use Rattle.mj_titanic.specs.Acting.{AreOf, Did, IsAt, Parts, RoseBy, nowhere, parts, shut_count}
+use Rattle.mj_titanic.specs.declared.acts.Keeping.{Keeping}
 use Rattle.mj_titanic.proofs.Attempts.{none-given}
 use Rattle.mj_titanic.proofs.Composing.{goes-nowhere}
 use Rattle.mj_titanic.proofs.Telling.{told-sees}
@@ -34,6 +41,35 @@ sends-plain n piece told s = by (connection_of n s.connections)
     by : (o : Option Connection) → IsPlain (sends_to n piece o told s) s
     by None = record { quiet = refl; limits = refl }
     by (Some c) = by_slow (is_slow s.limits c (length piece)) c
+
+pub answers-plain : (n : ℕ) (request : Request) (frames : List (List ℕ)) (told : Told) (s : State) → IsPlain (answers n request frames told s) s
+answers-plain n request frames told s = sends-plain n (reply_text true request frames) told s
+
+pub closed-plain : (n : ℕ) (request : Request) (ticket : ℕ) (told : Told) (s : State) → IsPlain (closed n request ticket told s) s
+closed-plain n request ticket told s =
+    let p = answers-plain n request (codes "200" ∷ []) told (record s { queue = without_ticket ticket s.queue }) in record { quiet = p.quiet; limits = p.limits }
+
+pub accepted-plain : (ticket : ℕ) (text service : List ℕ) (n : ℕ) (request : Request) (told : Told) (s : State) → IsPlain (accepted_as ticket text service n request told s) s
+accepted-plain ticket text service n request told s =
+    let p = answers-plain n request (codes "200" ∷ text ∷ []) told (record s { queue = s.queue ++ ticket_request ticket service ∷ [] }) in record { quiet = p.quiet; limits = p.limits }
+
+pub hands-plain : (body : List (List ℕ)) (p : Pair) (told : Told) (s : State) → IsPlain (hands body p told s) s
+hands-plain body p told s =
+    let q = sends-plain p.waiter.worker (request_text (voice_of (connection_of p.waiter.worker s.connections)) (with_body body p.request)) told (handed p s) in
+    record { quiet = q.quiet; limits = q.limits }
+
+-- from a state that is the same
+pub does-at : (new : State) (before outs : List Out) (act : State → Done Out) (s t : State) → s ≡ t → Does new before outs (act s) → Does new before outs (act t)
+does-at new before outs act s t is does = subst (λ (v : State). Does new before outs (act v)) is does
+
+-- and with the same frames
+pub answers-at : (new : State) (before outs : List Out) (n : ℕ) (request : Request) (told : Told) (some frames : List (List ℕ)) (s t : State) → some ≡ frames → s ≡ t
+    → Does new before outs (answers n request some told s) → Does new before outs (answers n request frames told t)
+answers-at new before outs n request told some frames s t same is does =
+    does-at new before outs (answers n request frames told) s t is (subst (λ (fs : List (List ℕ)). Does new before outs (answers n request fs told s)) same does)
+
+pub parts-same : (r s : State) (k l : Keeping) → r ≡ s → k ≡ l → parts r k ≡ parts s l
+parts-same r s k l routing keeping = ap (λ (v : State). parts v k) routing ∙ ap (λ (m : Keeping). parts s m) keeping
 
 module _ {D : Type 0} (disks : Ghosts D) (old new : Parts) (disk : D) (before outs : List Out) (act : Told → State → Done Out) where
   pub routed-did : new.keeper ≡ old.keeper → new.acts ≡ old.acts → Does new.core before outs (act (told_on old.keeper.shelf) old.core) → IsPlain (act (told_on old.keeper.shelf) old.core) old.core

@@ -1,9 +1,7 @@
 -- An act on the disk, and what follows it.
-use Rattle.std.proofs.Common.{◌≡◌, ◌⊎◌, ◌+◌, ◌≤◌, ℕ, List, [], ◌∷◌, ◌++◌, Option, refl, sym, ap, subst, ◌∙◌, inl, inr}
+use Rattle.std.proofs.Common.{◌≡◌, ◌⊎◌, ℕ, List, [], ◌∷◌, ◌++◌, refl, sym, ap, subst, ◌∙◌, inl, inr}
 use Rattle.std.proofs.lemmas.List.{append-nil}
-use Rattle.mj_base.specs.declared.event.Note.{Note}
 use Rattle.mj_base.specs.declared.event.Out.{Out}
-use Rattle.mj_disk.specs.DiskModel.{History}
 use Rattle.mj_disk.specs.declared.disk.Disk.{Ghosts}
 use Rattle.mj_disk.proofs.Moments.{leaves_weaker}
 use Rattle.mj_machine.specs.StoreState.{Store}
@@ -12,8 +10,8 @@ use Rattle.mj_machine.specs.Acts.{Doing, quiet, ◌then◌}
 use Rattle.mj_machine.specs.DiskActs.{opening}
 use Rattle.mj_titanic.specs.declared.fault.ActFault.{ActFault}
 use Rattle.mj_keeper.specs.Standing.{GoesOn, IsOneOf, MayLeave}
-use Rattle.mj_titanic.specs.Acting.{Agree, Did, Ends, IsAt, Parts, Stopped, around, nowhere}
-use Rattle.mj_titanic.proofs.Composing.{did-as, did-stopped, did-then, one-of-first, one-of-second, stopped-as, stopped-then}
+use Rattle.mj_titanic.specs.Acting.{Did, IsAt, Parts, Stopped, around, nowhere}
+use Rattle.mj_titanic.proofs.Composing.{did-as, did-stopped, did-then, one-of-first, one-of-second, stopped-as}
 use Rattle.mj_titanic.proofs.Continuing.{KeepsStore, after, opening-after, opening-leaves}
 
 -- each image of the one list is one of the other

@@ -2,7 +2,7 @@
 use Rattle.std.specs.Prelude.{ℕ, ◌≡◌, ◌⊎◌, Bool, true, false, List, length}
 use Rattle.mj_base.specs.declared.event.Out.{Out}
 use Rattle.mj_disk.specs.declared.disk.Disk.{Ghosts}
-use Rattle.mj_ids.specs.Ids.{id_of}
+use Rattle.mj_ids.specs.Ids.{id_of, text_of}
 use Rattle.mj_tickets.specs.Payload.{payload_of}
 use Rattle.mj_tickets.specs.declared.command.TicketCmd.{TicketCmd}
 use Rattle.mj_tickets.specs.declared.command.TicketCmd.TheVariants as cmds
@@ -31,15 +31,15 @@ appends cmd w = appending cmd quiet quiet w
 
 abbrev pub is_kept : Accepted → Bool
 is_kept Full = true
-is_kept (Kept number id) = true
+is_kept (Kept number text) = true
 is_kept Failed = false
 
 -- where there is no room nothing was done; else the command was appended, or that failed
 abbrev pub Accepts : {D : Type 0} → Ghosts D → State → StoreValue → TicketCmd → Keeping → D → Keeping → D → List Out → List Out → Accepted → Type 0
 Accepts disks core held cmd old disk new after before outs Full =
     (is_full_for held cmd ≡ true) × (new ≡ old) × (after ≡ disk) × (outs ≡ before)
-Accepts disks core held cmd old disk new after before outs (Kept number id) =
-    (is_full_for held cmd ≡ false) × (number ≡ held.index.next) × (id ≡ id_of old.keeper.seed held.index.next)
+Accepts disks core held cmd old disk new after before outs (Kept number text) =
+    (is_full_for held cmd ≡ false) × (number ≡ held.index.next) × (text ≡ text_of (id_of old.keeper.seed held.index.next))
     × Did disks (parts core old) disk (parts core new) after before outs (appends cmd) (around (appends cmd))
 Accepts disks core held cmd old disk new after before outs Failed =
     (is_full_for held cmd ≡ false) × Did disks (parts core old) disk (parts (core_behind false core) new) after before outs (appends cmd) (around (appends cmd))

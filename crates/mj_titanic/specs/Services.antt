@@ -1,15 +1,22 @@
 -- The parts of the services that stand on an open store.
 use Rattle.std.specs.Prelude.{ℕ, List, [], ◌∷◌, ◌++◌, Option, None, Some, codes}
+use Rattle.mj_base.specs.declared.event.Out.{Out}
 use Rattle.mj_queue.specs.declared.request.Request.{Request}
 use Rattle.mj_tickets.specs.declared.command.TicketCmd.TheVariants as cmds
 use Rattle.mj_tickets.specs.Fold.{known, ticket_of}
-use Rattle.mj_machine.specs.StoreState.{Told, pends, tickets_of}
+use Rattle.mj_machine.specs.StoreState.{Told, pends, ticket_request, tickets_of}
 use Rattle.mj_machine.specs.MachineState.{Act, Done, State}
 use Rattle.mj_machine.specs.DiskActs.{appending, reading, routes}
 use Rattle.mj_machine.specs.Pairing.{dispatches}
 use Rattle.mj_machine.specs.TitanicStep.{answers, closed, closes_ticket, fails_to, shows, stores_by}
 use Rattle.mj_queue.specs.Settling.{pair}
 use Rattle.mj_keeper.specs.Standing.{reply_of}
+
+-- ---- titanic.request
+
+-- the ticket's request is queued, and the text of its id is told
+abbrev pub accepted_as : ℕ → List ℕ → List ℕ → ℕ → Request → Told → State → Done Out
+accepted_as number text service n request told s = answers n request (codes "200" ∷ text ∷ []) told (record s { queue = s.queue ++ ticket_request number service ∷ [] })
 
 -- ---- titanic.close
 

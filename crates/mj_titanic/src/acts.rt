@@ -9,13 +9,14 @@ ghost use Rattle.mj_store.specs.Commands.{CanBeKept, is_pending_at};
 ghost use Rattle.mj_tickets.specs.Fold.{ticket_of};
 ghost use Rattle.mj_tickets.specs.declared.command.TicketCmd.TheVariants as cmds;
 ghost use Rattle.mj_titanic.specs.Acting.{Did, Stopped, around, core_behind, parts};
-ghost use Rattle.mj_keeper.specs.Standing.{IsOpenWith, IsSound, IsTicketBody, IsTicketReply, is_open};
+ghost use Rattle.mj_keeper.specs.Standing.{IsOpenWith, IsSound, IsTicketBody, IsTicketReply, is_open, told_on};
 ghost use Rattle.mj_keeper.specs.declared.keeper.Shelf.TheVariants as shelves;
+ghost use Rattle.mj_titanic.specs.Onward.{SameKeeper};
 
 use crate::fault::ActFault;
-use mj_keeper::{Keeper, Shelf};
 use mj_base::{Frames, NoMemory, Note, Out};
 use mj_disk::Disk;
+use mj_keeper::{Keeper, Shelf};
 use mj_store::{AppendFault, BodyFault, OpenFault};
 use std::alloc::Global;
 
@@ -44,6 +45,8 @@ impl Keeping {
         ensures stopped { IfErr result (λ fault. (core : State) → Stopped D.Disk fault (parts core self.old) disk.old disk.new (around (appending (cmds.Store number body.now) quiet quiet))) }
         ensures sound { OnOk result (IsSound D.Disk self.new.keeper disk.new) }
         ensures usable { IfOk result (λ kept. is_open self.new.keeper.shelf ≡ kept) }
+        ensures stored { OnOk result ((told_on self.new.keeper.shelf).stored ≡ true) }
+        ensures same_keeper { SameKeeper self.old.keeper self.new.keeper }
     {
         let Shelf::Open(store) = &mut self.keeper.shelf else {
             unreachable!();
@@ -80,6 +83,8 @@ impl Keeping {
         ensures stopped { IfErr result (λ fault. (core : State) → Stopped D.Disk fault (parts core self.old) disk.old disk.new (around (appending (cmds.Close number) quiet quiet))) }
         ensures sound { OnOk result (IsSound D.Disk self.new.keeper disk.new) }
         ensures usable { IfOk result (λ kept. is_open self.new.keeper.shelf ≡ kept) }
+        ensures stored { OnOk result ((told_on self.new.keeper.shelf).stored ≡ true) }
+        ensures same_keeper { SameKeeper self.old.keeper self.new.keeper }
     {
         let Shelf::Open(store) = &mut self.keeper.shelf else {
             unreachable!();
@@ -117,6 +122,8 @@ impl Keeping {
         ensures stopped { IfErr result (λ fault. (core : State) → Stopped D.Disk fault (parts core self.old) disk.old disk.new (around (reading quiet quiet))) }
         ensures sound { OnOk result (IsSound D.Disk self.new.keeper disk.new) }
         ensures usable { IfOk result (λ read. is_open self.new.keeper.shelf ≡ is_some read) }
+        ensures stored { OnOk result ((told_on self.new.keeper.shelf).stored ≡ true) }
+        ensures same_keeper { SameKeeper self.old.keeper self.new.keeper }
     {
         let Shelf::Open(store) = &mut self.keeper.shelf else {
             unreachable!();
@@ -155,6 +162,8 @@ impl Keeping {
         ensures stopped { IfErr result (λ fault. (core : State) → Stopped D.Disk fault (parts core self.old) disk.old disk.new (around (reading quiet quiet))) }
         ensures sound { OnOk result (IsSound D.Disk self.new.keeper disk.new) }
         ensures usable { IfOk result (λ read. is_open self.new.keeper.shelf ≡ is_some read) }
+        ensures stored { OnOk result ((told_on self.new.keeper.shelf).stored ≡ true) }
+        ensures same_keeper { SameKeeper self.old.keeper self.new.keeper }
     {
         let Shelf::Open(store) = &mut self.keeper.shelf else {
             unreachable!();
@@ -178,11 +187,23 @@ impl Keeping {
         }
     }
 
+    /// Whether the file is open.
+    pub fn is_open(&self) -> bool
+        ensures { result ≡ is_open self.now.keeper.shelf }
+    {
+        match &self.keeper.shelf {
+            Shelf::Absent => false,
+            Shelf::Open(_store) => true,
+            Shelf::Shut(_end) => false,
+        }
+    }
+
     /// The act has failed, and the store is shut; the next act has this number.
     pub(crate) fn shut(&mut self, end: u64, next: u32, outs: &mut Vec<Out>) -> Result<(), NoMemory>
         ensures keeper { OnOk result (self.new.keeper ≡ record self.old.keeper { shelf = shelves.Shut end }) }
         ensures acts { OnOk result (self.new.acts ≡ next) }
         ensures note { OnOk result (outs.new.items ≡ outs.old.items ++ out.Note (notes.Shut self.old.acts) ∷ []) }
+        ensures same_keeper { SameKeeper self.old.keeper self.new.keeper }
     {
         outs.push(Out::Note(Note::Shut(self.acts)))?;
         self.keeper.shelf = Shelf::Shut(end);

@@ -6,9 +6,11 @@ mod acts;
 mod fault;
 mod parts;
 mod reopening;
+mod replies;
+mod services;
+mod settling;
 
 pub use accepting::Accepted;
 pub use acts::Keeping;
 pub use fault::ActFault;
 pub use parts::Parts;
-

@@ -9,6 +9,7 @@ ghost use Rattle.mj_titanic.specs.Acting.{Did, Stopped, around, parts};
 ghost use Rattle.mj_titanic.specs.Reopening.{core_reopened};
 ghost use Rattle.mj_keeper.specs.Standing.{IsSound, is_open, told_on};
 ghost use Rattle.mj_keeper.specs.declared.keeper.Shelf.TheVariants as shelves;
+ghost use Rattle.mj_titanic.specs.Onward.{SameKeeper};
 
 use crate::acts::Keeping;
 use crate::fault::ActFault;
@@ -33,6 +34,8 @@ impl Keeping {
         ensures stopped { IfErr result (λ fault. (core : State) → Stopped D.Disk fault (parts core self.old) disk.old disk.new (around (opening quiet quiet))) }
         ensures sound { OnOk result (IsSound D.Disk self.new.keeper disk.new) }
         ensures usable { IfOk result (λ opened. is_open self.new.keeper.shelf ≡ opened) }
+        ensures still_stored { OnOk result ((told_on self.new.keeper.shelf).stored ≡ true) }
+        ensures same_keeper { SameKeeper self.old.keeper self.new.keeper }
     {
         let end = match &self.keeper.shelf {
             Shelf::Absent => unreachable!(),
@@ -69,6 +72,7 @@ impl Keeping {
         ensures keeper { OnOk result (self.new.keeper ≡ record self.old.keeper { shelf = shelves.Open store }) }
         ensures acts { OnOk result (self.new.acts ≡ next) }
         ensures note { OnOk result (outs.new.items ≡ outs.old.items ++ out.Note (notes.Again self.old.acts (has_moved end store)) ∷ []) }
+        ensures same_keeper { SameKeeper self.old.keeper self.new.keeper }
     {
         let found = store.end() != end;
         outs.push(Out::Note(Note::Again(self.acts, found)))?;

@@ -1,10 +1,9 @@
-use Rattle.std.proofs.Common.{ℕ, ap, sym, subst, ◌∙◌, refl}
+use Rattle.std.proofs.Common.{ap, sym, subst, ◌∙◌}
 use Rattle.mj_store.specs.Opening.{IsRefusal}
 use Rattle.mj_machine.specs.MachineState.{State}
 use Rattle.mj_titanic.specs.declared.fault.ActFault.TheVariants.{NoMemory, Refused}
 use Rattle.mj_keeper.specs.declared.keeper.Keeper.{Keeper}
 use Rattle.mj_keeper.specs.declared.keeper.Shelf.{Shelf}
-use Rattle.mj_keeper.specs.declared.keeper.Shelf.TheVariants as shelves
 use Rattle.mj_titanic.specs.Acting.{parts}
 use Rattle.mj_titanic.specs.Reopening.{core_opened, core_reopened}
 use Rattle.mj_titanic.proofs.Composing.{stopped-still}
