@@ -126,13 +126,18 @@ said-short message is = by (client_of message) (worker_of message) (client-short
 
 -- ---- items of a wire with lawful limits
 
+-- the first two of a row of tests
+two-tests : (a b rest : Bool) → (a && (b && rest)) ≡ true → (a ≡ true) × (b ≡ true)
+two-tests true true rest e = (refl, refl)
+two-tests true false rest e = cc e
+two-tests false b rest e = cc e
+
 pub lawful-most : (limits : Limits) → are_lawful limits ≡ true → (limits.frames ≤ 260) × (limits.message ≤ 1049600)
-lawful-most limits is = by (nat_le limits.frames 260) (nat_le limits.message 1049600) refl refl is
-  where
-    by : {rest : Bool} (a b : Bool) → nat_le limits.frames 260 ≡ a → nat_le limits.message 1049600 ≡ b → (a && (b && rest)) ≡ true → (limits.frames ≤ 260) × (limits.message ≤ 1049600)
-    by true true frames message e = (grind (arith, nat_tests), grind (arith, nat_tests))
-    by true false frames message e = cc
-    by false b frames message e = cc
+lawful-most limits is =
+    let both = two-tests (nat_le limits.frames 260) (nat_le limits.message 1049600) _ is in
+    let one : nat_le limits.frames 260 ≡ true = both.0 in
+    let two : nat_le limits.message 1049600 ≡ true = both.1 in
+    (grind (arith, nat_tests), grind (arith, nat_tests))
 
 item-short : (limits : Limits) → are_lawful limits ≡ true → (item : WireItem) → IsSmallItem limits item → IsShortItem item
 item-short limits lawful items.Accepted small = tt
