@@ -1,5 +1,5 @@
 -- What stays on every disk.
-use Rattle.std.proofs.Common.{◌≡◌, ◌<◌, ◌+◌, ℕ, true, false, List, length, refl, sym, ap, subst, ◌∙◌}
+use Rattle.std.proofs.Common.{◌≡◌, ℕ, true, false, List, refl, sym, subst}
 use Rattle.mj_base.specs.declared.event.Out.{Out}
 use Rattle.mj_queue.specs.declared.request.Request.{Request}
 use Rattle.mj_machine.specs.MachineState.{State}
@@ -11,7 +11,7 @@ use Rattle.mj_keeper.specs.declared.keeper.Shelf.TheVariants as shelves
 use Rattle.mj_routing.specs.RoutingState.{Does}
 use Rattle.mj_routing.specs.Staying.{IsQueueOf, StaysBeside}
 use Rattle.mj_routing.proofs.FewerLemmas.{beside-shut}
-use Rattle.mj_routing.proofs.PlainLemmas.{beside, beside-then, plain-sends, stays-same}
+use Rattle.mj_routing.proofs.PlainLemmas.{beside, plain-sends, stays-same}
 use Rattle.mj_titanic.specs.Reopening.{core_opened}
 
 open-queue : (shelf : Shelf) → is_open shelf ≡ true → (queue : List Request) → IsQueueOf shelf queue

@@ -1,5 +1,5 @@
 use Rattle.mj_routing.specs.Staying.{StaysBeside}
-use Rattle.mj_routing.proofs.FewerLemmas.{fewer-hands, fewer-passes, total}
+use Rattle.mj_routing.proofs.FewerLemmas.{fewer-hands, fewer-passes}
 use Rattle.mj_routing.proofs.PlainLemmas.{beside, beside-then, plain-hands, stays-waits}
 use Rattle.mj_titanic.proofs.OnwardLemmas.{dropped-onward, from-open}
 use Rattle.std.proofs.Common.{◌≡◌, ◌+◌, ◌<◌, sym, subst, length}
