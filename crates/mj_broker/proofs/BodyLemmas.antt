@@ -16,13 +16,11 @@ use Rattle.mj_opening.specs.declared.party.Party.{Party}
 use Rattle.mj_opening.specs.declared.party.Party.TheVariants.{Clients, Workers}
 use Rattle.mj_client_cmd.specs.ClientReading.{client_of, named, request, request_begun, request_in, request_rest}
 use Rattle.mj_client_cmd.specs.declared.command.ClientCmd.{ClientCmd}
-use Rattle.mj_worker_cmd.specs.WorkerReading.{bare_of, envelope_of, ready_of, reply_of, worker_act, worker_begun, worker_cmd, worker_coded, worker_in, worker_of}
+use Rattle.mj_worker_cmd.specs.WorkerReading.{worker_of}
+use Rattle.mj_worker_cmd.proofs.BehindLemmas.{worker-behind}
 use Rattle.mj_worker_cmd.specs.declared.command.WorkerAct.{WorkerAct}
 use Rattle.mj_worker_cmd.specs.declared.command.WorkerAct.TheVariants as act
 use Rattle.mj_worker_cmd.specs.declared.command.WorkerCmd.{WorkerCmd}
-use Rattle.mj_worker_cmd.specs.declared.kind.WorkerKind.{WorkerKind}
-use Rattle.mj_worker_cmd.specs.declared.kind.WorkerKind.TheVariants as kinds
-use Rattle.mj_worker_cmd.specs.Codes.{worker_kind}
 use Rattle.mj_tickets.specs.Payload.{body_text, count_octets, frames_text, length_octets}
 use Rattle.mj_store.specs.Commands.{CanBeKept}
 use Rattle.mj_machine.specs.MessageStep.{said_by, said_in}
@@ -113,62 +111,8 @@ client-short message is = by (opening_of Clients message) (opening-short Clients
 
 -- ---- a worker's
 
-abbrev IsShortDone : Option WorkerAct → Type 0
-IsShortDone o = IfSome o IsShortAct
-
-short-if : {X : Type 0} (P : X → Type 0) (b : Bool) (x : X) → P x → IfSome (cond {A = Option X} b (Some x) None) P
-short-if P true x holds = holds
-short-if P false x holds = tt
-
-short-map : {X : Type 0} (P : X → Type 0) (f : X → WorkerAct) → ((x : X) → P x → IsShortAct (f x)) → (o : Option X) → IfSome o P → IsShortDone (option_map f o)
-short-map P f same None holds = tt
-short-map P f same (Some x) holds = same x holds
-
-envelope-short : (rest : List (List ℕ)) → IsShort rest → IfSome (envelope_of rest) (λ e. IsShort e.body)
-envelope-short [] is = tt
-envelope-short (address ∷ []) is = tt
-envelope-short (address ∷ empty ∷ body) is = short-if _ (bytes_eq empty []) _ (rest-short empty body (rest-short address (empty ∷ body) is))
-
-reply-short : (last : Bool) (rest : List (List ℕ)) → IsShort rest → IsShortDone (reply_of last rest)
-reply-short last rest is = short-map _ _ (λ e short. short) (envelope_of rest) (envelope-short rest is)
-
-ready-short : (rest : List (List ℕ)) → IsShortDone (ready_of rest)
-ready-short [] = tt
-ready-short (service ∷ []) = by (is_service_name service)
-  where
-    by : (b : Bool) → IsShortDone (cond {A = Option WorkerAct} b (Some (act.Ready service)) None)
-    by true = tt
-    by false = tt
-ready-short (service ∷ next ∷ rest) = tt
-
-bare-short : (does : WorkerAct) (rest : List (List ℕ)) → IsShortAct does → IsShortDone (bare_of does rest)
-bare-short does [] short = short
-bare-short does (frame ∷ rest) short = tt
-
-act-short : (kind : WorkerKind) (rest : List (List ℕ)) → IsShort rest → IsShortDone (worker_act kind rest)
-act-short kinds.Ready rest is = ready-short rest
-act-short (kinds.Reply last) rest is = reply-short last rest is
-act-short kinds.Heartbeat rest is = bare-short act.Heartbeat rest tt
-act-short kinds.Disconnect rest is = bare-short act.Disconnect rest tt
-
-code-short : (version : Version) (rest : List (List ℕ)) → IsShort rest → IsShortDone (worker_coded version rest)
-code-short version [] is = tt
-code-short version (code ∷ rest) is = by (worker_kind version code) (rest-short code rest is)
-  where
-    by : (o : Option WorkerKind) → IsShort rest → IsShortDone (worker_in o rest)
-    by None short = tt
-    by (Some kind) short = act-short kind rest short
-
 worker-short : (message : List (List ℕ)) → IsShort message → IfSome (worker_of message) (λ cmd. IsShortAct cmd.act)
-worker-short message is = by (opening_of Workers message) (opening-short Workers message is)
-  where
-    done : (version : Version) (lead : Bool) (o : Option WorkerAct) → IsShortDone o → IfSome (option_map (worker_cmd version lead) o) (λ cmd. IsShortAct cmd.act)
-    done version lead None short = tt
-    done version lead (Some does) short = short
-
-    by : (o : Option Begun) → IsShortBegun o → IfSome (worker_begun o) (λ cmd. IsShortAct cmd.act)
-    by None short = tt
-    by (Some b) short = done b.version b.lead (worker_coded b.version b.rest) (code-short b.version b.rest short)
+worker-short message is = worker-behind IsShort rest-short IsShortAct (λ service. tt) (λ last address body short. short) tt tt message is
 
 -- ---- what was said
 
@@ -182,13 +126,18 @@ said-short message is = by (client_of message) (worker_of message) (client-short
 
 -- ---- items of a wire with lawful limits
 
+-- the first two of a row of tests
+two-tests : (a b rest : Bool) → (a && (b && rest)) ≡ true → (a ≡ true) × (b ≡ true)
+two-tests true true rest e = (refl, refl)
+two-tests true false rest e = cc e
+two-tests false b rest e = cc e
+
 pub lawful-most : (limits : Limits) → are_lawful limits ≡ true → (limits.frames ≤ 260) × (limits.message ≤ 1049600)
-lawful-most limits is = by (nat_le limits.frames 260) (nat_le limits.message 1049600) refl refl is
-  where
-    by : {rest : Bool} (a b : Bool) → nat_le limits.frames 260 ≡ a → nat_le limits.message 1049600 ≡ b → (a && (b && rest)) ≡ true → (limits.frames ≤ 260) × (limits.message ≤ 1049600)
-    by true true frames message e = (grind (arith, nat_tests), grind (arith, nat_tests))
-    by true false frames message e = cc
-    by false b frames message e = cc
+lawful-most limits is =
+    let both = two-tests (nat_le limits.frames 260) (nat_le limits.message 1049600) _ is in
+    let one : nat_le limits.frames 260 ≡ true = both.0 in
+    let two : nat_le limits.message 1049600 ≡ true = both.1 in
+    (grind (arith, nat_tests), grind (arith, nat_tests))
 
 item-short : (limits : Limits) → are_lawful limits ≡ true → (item : WireItem) → IsSmallItem limits item → IsShortItem item
 item-short limits lawful items.Accepted small = tt

@@ -1,12 +1,17 @@
 -- What was done on what is routed, as a part of an event; and two parts in a row.
-use Rattle.std.proofs.Common.{◌≡◌, ℕ, Bool, List, [], ◌∷◌, ◌++◌, refl, sym, ap, subst, ◌∙◌, inl, inr, append-nil, Result, Ok, Err, OnOk}
+use Rattle.std.proofs.Common.{◌≡◌, ℕ, Bool, List, [], ◌∷◌, ◌++◌, Option, None, Some, refl, sym, ap, subst, ◌∙◌, inl, inr, append-nil, Result, Ok, Err, OnOk}
 use Rattle.mj_base.specs.declared.event.Out.{Out}
 use Rattle.mj_disk.specs.declared.disk.Disk.{Ghosts}
 use Rattle.mj_machine.specs.StoreState.{Store, Told}
 use Rattle.mj_machine.specs.MachineState.{Act, Done, State, Whole}
 use Rattle.mj_machine.specs.Acts.{Doing, quiet, ◌then◌}
 use Rattle.mj_machine.specs.DiskActs.{routes}
-use Rattle.mj_machine.specs.MessageStep.{rests}
+use Rattle.mj_machine.specs.MessageStep.{rests, says, says_by}
+use Rattle.mj_machine.specs.declared.connection.Connection.{Connection}
+use Rattle.mj_machine.specs.declared.said.Said.{Said}
+use Rattle.mj_routing.specs.Places.{standing_of}
+use Rattle.mj_routing.specs.declared.connections.Standing.{Standing}
+use Rattle.mj_titanic.proofs.Telling.{told-sees}
 use Rattle.mj_keeper.specs.Standing.{IsOneOf, IsSound, MayLeave, told_on}
 use Rattle.mj_routing.specs.RoutingState.{Does}
 use Rattle.mj_routing.specs.Staying.{IsPlain, Stays, StaysBeside}
@@ -161,5 +166,29 @@ module _ {D : Type 0} (disks : Ghosts D) where
       still w at image (inr (inl there)) = inl (subst (λ (s : Store). MayLeave s image) (keeps w) there)
       still w at image (inr (inr none)) = absurd none
 
+  -- nothing, with no store named
+  pub acted-quiet : (old : Parts) (disk : D) (before : List Out) → IsSound disks old.keeping.keeper disk → Acted disks old disk old disk before before (λ w. (w, [])) (λ w. [])
+  acted-quiet old disk before sound = record {
+    did = did-nothing disks (seen old) disk before;
+    sound = sound;
+    stays = beside old.keeping.keeper.shelf old.routing old.routing (stays-same (told_on old.keeping.keeper.shelf) old.routing);
+  }
+
+  -- whether there is a store
+  pub stored-is : (old : Parts) (disk : D) (w : Whole) → IsAt disks (seen old) disk w → w.store.stored ≡ (told_on old.keeping.keeper.shelf).stored
+  stored-is old disk w at = ap (λ (t : Told). t.stored) (told-sees disks old.keeping.keeper.limits disk w.store old.keeping.keeper refl at.store.stands)
+
+-- what stands of a connection says what becomes of a message
+pub standing-none : (n : ℕ) (found : Option Connection) (said : Said) (w : Whole) → standing_of found ≡ None → quiet w ≡ says_by n found said w
+standing-none n None said w e = refl
+standing-none n (Some c) said w e = cc
+
+pub standing-some : (n : ℕ) (found : Option Connection) (s : Standing) (said : Said) (w : Whole) → standing_of found ≡ Some s → says s.lane n s.role said w ≡ says_by n found said w
+standing-some n None s said w e = cc
+standing-some n (Some c) s said w e =
+    let is : record { lane = c.lane; role = c.role } ≡ s = cc in
+    ap (λ (t : Standing). says t.lane n t.role said w) (sym is)
+
 pub rests-keep : (last : Bool) (n : ℕ) (service : List ℕ) → KeepsStore (routes (rests last n service))
 rests-keep last n service w = refl
+

@@ -1,5 +1,6 @@
 -- Settling pair by pair, and what a crash may leave of it.
 use Rattle.std.proofs.Common.{◌≡◌, ◌+◌, ◌<◌, ◌≤◌, ℕ, Bool, true, false, List, [], ◌∷◌, ◌++◌, length, Option, None, Some, refl, sym, ap, subst, ◌∙◌, inl, inr, arith, append-nil, MatchOption}
+use Rattle.std.proofs.lemmas.List.{append_cancel_left}
 use Rattle.std.specs.Option.{is_some, option_map}
 use Rattle.std.specs.List.{list_any}
 use Rattle.mj_base.specs.declared.event.Note.{Note}
@@ -139,14 +140,6 @@ no-offer s e = of (pair s.waiting s.queue) e
 pub offer-some : (s : State) (offer : Offer) → option_map offer_of (pair s.waiting s.queue) ≡ Some offer → is_some (pair s.waiting s.queue) ≡ true
 offer-some s offer e = let is = offer-pair s offer e in ap is_some is.is
 
--- what stands behind the same
-cancel : {X : Type 0} (before xs ys : List X) → before ++ xs ≡ before ++ ys → xs ≡ ys
-cancel [] xs ys e = e
-cancel (b ∷ before) xs ys e = cancel before xs ys (tail e)
-  where
-    tail : b ∷ (before ++ xs) ≡ b ∷ (before ++ ys) → before ++ xs ≡ before ++ ys
-    tail e = cc
-
 -- ---- a client's request, and a ticket's that isn't open
 
 clients-first : (waiting : List Waiter) (requests : List Request) (p : Pair) → OnlyClients requests → pair waiting requests ≡ Some p → is_of_client p.request.origin ≡ true
@@ -210,8 +203,9 @@ module _ {D : Type 0} (disks : Ghosts D) where
             ends = λ w at agree.
                 let fine = not-failing w at agree in
                 let here : IsAt disks (seen mid) disk (counted w) = record { routing = at.routing; limited = at.limited; acts = next_is ∙ ap (λ (k : ℕ). k + 1) at.acts; store = at.store } in
-                subst (λ (d : Doing Whole Out). Ends disks (seen now) disk one.did.added w d) (sym (empty-next w at fine))
-                (one.did.ends (counted w) here (λ k low high. absurd (omega (arith, low, high))));
+                let e = one.did.ends (counted w) here (λ k low high. absurd (omega (arith, low, high))) in
+                let same : Ends disks (seen now) disk one.did.added w (routes (hands [] p) (counted w)) = record { at = e.at; outs = e.outs; notes = e.notes } in
+                subst (λ (d : Doing Whole Out). Ends disks (seen now) disk one.did.added w d) (sym (empty-next w at fine)) same;
             crash = λ w at agree. goes-more disks disk disk [] (around next_pair w) (goes-nowhere disks disk disk refl (omega arith));
             count = one.did.count;
             silent = one.did.silent;
@@ -234,7 +228,7 @@ module _ {D : Type 0} (disks : Ghosts D) where
         one = lifted disks mid disk sound new before outs (hands [] p) (plain-hands (told_on old.keeping.keeper.shelf) [] p old.routing given.1) given.2
 
         quiet_notes : notes_in one.did.added ≡ []
-        quiet_notes = ap notes_in (cancel before one.did.added (hands [] p (told_on old.keeping.keeper.shelf) old.routing).1 (sym one.did.outs_are ∙ given.2.outs)) ∙ (plain-hands (told_on old.keeping.keeper.shelf) [] p old.routing given.1).notes
+        quiet_notes = ap notes_in (append_cancel_left before one.did.added (hands [] p (told_on old.keeping.keeper.shelf) old.routing).1 (sym one.did.outs_are ∙ given.2.outs)) ∙ (plain-hands (told_on old.keeping.keeper.shelf) [] p old.routing given.1).notes
 
         there : Offers old.routing offer
         there = offer-pair old.routing offer offered

@@ -1,3 +1,4 @@
 pub mod CodeLemmas
 pub mod WorkerLemmas
 pub mod OrderLemmas
+pub mod BehindLemmas

@@ -46,22 +46,22 @@ feed-requires-clause-fresh g c = c.requires.ready.fresh
 
 pub gain-requires-clause-short : goal.gain-requires-clause-short
 gain-requires-clause-short g c = λ stored.
-    subst (λ (xs : List WireItem). AreShort xs) (sym c.as_slice-2.ensures.value)
+    subst (λ (xs : List WireItem). AreShort xs) (sym c.as_slice-in-Ok.ensures.value)
     (items-short c.args.parts.now.keeping.keeper.limits (c.requires.lawful stored) c.in-Ok.items.items (c.in-Ok.ensures.small c.args.parts.now.keeping.keeper.limits c.requires.limited))
 
 pub returns-in-Ok-clause-happened : goal.returns-in-Ok-clause-happened
 returns-in-Ok-clause-happened g c =
     on_ok_weaker c.gain.result
-    (λ a. fed-happened g.D.Disk c.args.parts.now c.args.disk.now c.args.lane c.in-Some.number c.args.piece.now c.as_slice-2.result.now c.args.wires.now.items (sym c.number_on.ensures ∙ c.in-Some.is)
-    (λ limits streams stands. c.as_slice-2.ensures.value ∙ rw c.as_slice.ensures at (c.in-Ok.ensures.items limits streams stands))
+    (λ a. fed-happened g.D.Disk c.args.parts.now c.args.disk.now c.args.lane c.in-Some.number c.args.piece.now c.as_slice-in-Ok.result.now c.args.wires.now.items (sym c.number_on.ensures ∙ c.in-Some.is)
+    (λ limits streams stands. c.as_slice-in-Ok.ensures.value ∙ rw c.as_slice.ensures at (c.in-Ok.ensures.items limits streams stands))
     c.gain.new.parts c.gain.new.disk c.feed.new.links.items c.args.outs.now.items c.gain.new.outs.items (λ limits streams stands. rw c.as_slice.ensures at (c.in-Ok.ensures.stand limits streams stands)) a.did)
     c.gain.ensures.acted
 
 pub returns-in-Ok-clause-halted : goal.returns-in-Ok-clause-halted
 returns-in-Ok-clause-halted g c =
     IfErr-weaker c.gain.result _ _
-    (λ fault s. fed-halted g.D.Disk c.args.parts.now c.args.disk.now c.args.lane c.in-Some.number c.args.piece.now c.as_slice-2.result.now c.args.wires.now.items (sym c.number_on.ensures ∙ c.in-Some.is)
-    (λ limits streams stands. c.as_slice-2.ensures.value ∙ rw c.as_slice.ensures at (c.in-Ok.ensures.items limits streams stands)) fault c.gain.new.disk s)
+    (λ fault s. fed-halted g.D.Disk c.args.parts.now c.args.disk.now c.args.lane c.in-Some.number c.args.piece.now c.as_slice-in-Ok.result.now c.args.wires.now.items (sym c.number_on.ensures ∙ c.in-Some.is)
+    (λ limits streams stands. c.as_slice-in-Ok.ensures.value ∙ rw c.as_slice.ensures at (c.in-Ok.ensures.items limits streams stands)) fault c.gain.new.disk s)
     c.gain.ensures.stopped
 
 pub returns-in-Ok-clause-sound : goal.returns-in-Ok-clause-sound

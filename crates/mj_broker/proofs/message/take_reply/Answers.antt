@@ -27,7 +27,7 @@ returns-in-Err-pass_on-clause-stopped g c =
     (c.in-Ok.ensures.acted c.args.outs.now.items) c.in-Err-pass_on.ensures.stopped)
 
 pub rest-requires : goal.rest-requires
-rest-requires g c = c.in-Ok-pass_on.ensures.acted.sound
+rest-requires g c = record { sound = c.in-Ok-pass_on.ensures.acted.sound }
 
 pub returns-clause-acted : goal.returns-clause-acted
 returns-clause-acted g c =
