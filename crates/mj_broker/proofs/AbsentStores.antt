@@ -1,8 +1,8 @@
 -- Without a store no reply is stored.
-use Rattle.std.proofs.Common.{◌≡◌, ℕ, Bool, true, false, List, refl, sym, ap, ◌∙◌}
+use Rattle.std.proofs.Common.{◌≡◌, ℕ, false, List, sym, ap, ◌∙◌}
 use Rattle.mj_disk.specs.declared.disk.Disk.{Ghosts}
 use Rattle.mj_tickets.specs.declared.command.TicketCmd.{TicketCmd}
-use Rattle.mj_machine.specs.StoreState.{Access, Store, pends, tickets_of}
+use Rattle.mj_machine.specs.StoreState.{Access, pends, tickets_of}
 use Rattle.mj_machine.specs.MachineState.{Whole}
 use Rattle.mj_machine.specs.Acts.{quiet}
 use Rattle.mj_machine.specs.DiskActs.{opening_by}

@@ -1,8 +1,6 @@
 -- Each body of a message within the lawful limits can be kept.
-use Rattle.std.proofs.Common.{◌≡◌, ◌+◌, ◌*◌, ◌≤◌, ◌&&◌, ℕ, Bool, true, false, cond, nat_le, List, [], ◌∷◌, ◌++◌, length, sum_by, Option, None, Some, IfSome, refl, sym, ap, subst, ◌∙◌, arith, length-append}
+use Rattle.std.proofs.Common.{◌≡◌, ◌+◌, ◌*◌, ◌≤◌, ◌&&◌, ℕ, Bool, true, false, cond, nat_le, List, [], ◌∷◌, ◌++◌, length, sum_by, Option, None, Some, IfSome, refl, arith, length-append}
 use Rattle.std.specs.Option.{option_map}
-use Rattle.std.specs.Int.{to_be_bytes, w16, w32}
-use Rattle.std.specs.List.{AllByRecursion}
 use Rattle.std.specs.Str.{bytes_eq}
 use Rattle.std.proofs.lemmas.Bool.Decides.{nat_tests}
 use Rattle.std.proofs.lemmas.List.Sums.{sum_by-cons}
@@ -13,19 +11,15 @@ use Rattle.mj_base.specs.declared.version.Version.{Version}
 use Rattle.mj_base.specs.declared.version.Version.TheVariants.{One, Two}
 use Rattle.mj_opening.specs.Opening.{Begun, begun, behind_empty, opening_of, version_of, word_of}
 use Rattle.mj_opening.specs.declared.party.Party.{Party}
-use Rattle.mj_opening.specs.declared.party.Party.TheVariants.{Clients, Workers}
+use Rattle.mj_opening.specs.declared.party.Party.TheVariants.{Clients}
 use Rattle.mj_client_cmd.specs.ClientReading.{client_of, named, request, request_begun, request_in, request_rest}
 use Rattle.mj_client_cmd.specs.declared.command.ClientCmd.{ClientCmd}
 use Rattle.mj_worker_cmd.specs.WorkerReading.{worker_of}
 use Rattle.mj_worker_cmd.proofs.BehindLemmas.{worker-behind}
-use Rattle.mj_worker_cmd.specs.declared.command.WorkerAct.{WorkerAct}
-use Rattle.mj_worker_cmd.specs.declared.command.WorkerAct.TheVariants as act
 use Rattle.mj_worker_cmd.specs.declared.command.WorkerCmd.{WorkerCmd}
-use Rattle.mj_tickets.specs.Payload.{body_text, count_octets, frames_text, length_octets}
+use Rattle.mj_tickets.specs.Payload.{count_octets, frames_text, length_octets}
 use Rattle.mj_store.specs.Commands.{CanBeKept}
 use Rattle.mj_machine.specs.MessageStep.{said_by, said_in}
-use Rattle.mj_machine.specs.declared.said.Said.{Said}
-use Rattle.mj_wire.specs.StreamCuts.{IsSmallMessage}
 use Rattle.mj_wire.specs.SmallItems.{AreSmallItems, IsSmallItem}
 use Rattle.mj_wire.specs.declared.item.WireItem.{WireItem}
 use Rattle.mj_wire.specs.declared.item.WireItem.TheVariants as items

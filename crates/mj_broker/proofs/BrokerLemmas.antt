@@ -1,8 +1,7 @@
 -- A whole event, from what was done of it.
-use Rattle.std.proofs.Common.{rules, arith, ◌≡◌, ◌≢◌, ◌⊎◌, ◌≤◌, ◌+◌, ◌==◌, ◌++◌, ℕ, Bool, true, false, cond, List, [], ◌∷◌, is_some, Option, None, Some, IsSome, IfSome, refl, sym, ap, subst, ◌∙◌, inl, inr}
+use Rattle.std.proofs.Common.{rules, arith, ◌≡◌, ◌==◌, ℕ, Bool, true, false, cond, List, [], ◌∷◌, is_some, Option, None, Some, IsSome, refl, sym, ap, subst, ◌∙◌, inl, inr}
 use Rattle.std.specs.Option.{option_map}
 use Rattle.std.specs.List.{find}
-use Rattle.mj_base.specs.LawfulLimits.{are_lawful}
 use Rattle.mj_base.specs.declared.event.Event.{Event}
 use Rattle.mj_base.specs.declared.event.Event.TheVariants as events
 use Rattle.mj_base.specs.declared.event.Note.{Note}
@@ -14,21 +13,20 @@ use Rattle.mj_wire.specs.StreamItems.{gained}
 use Rattle.mj_wire.specs.WireState.{State as WireValue}
 use Rattle.mj_wire.specs.declared.item.WireItem.{WireItem}
 use Rattle.mj_machine.specs.declared.connection.Connection.{Connection}
-use Rattle.mj_machine.specs.StoreState.{Store, Told}
 use Rattle.mj_machine.specs.MachineState.{Machine, State, Stream, Whole, entered}
-use Rattle.mj_machine.specs.Acts.{Doing, ◌then◌}
+use Rattle.mj_machine.specs.Acts.{◌then◌}
 use Rattle.mj_machine.specs.Pairing.{settles}
 use Rattle.mj_machine.specs.Connections.{connection_of, number_on}
 use Rattle.mj_machine.specs.DiskActs.{notes_in}
-use Rattle.mj_machine.specs.EventStep.{Closes, Gains, Happening, Noted, Opens, Reports, Stops, Ticks, does, fed, fed_by, gain_of, gains, happening, happens, opened, outs_of, state_after, stream_of, streams_after}
-use Rattle.mj_machine.specs.Steps.{happening_steps, stores_in, stores_of}
+use Rattle.mj_machine.specs.EventStep.{Gains, Happening, Opens, Stops, fed, fed_by, gain_of, gains, happening, happens, opened, stream_of, streams_after}
+use Rattle.mj_machine.specs.Steps.{stores_of}
 use Rattle.mj_machine.proofs.StreamLemmas.{there-on}
-use Rattle.mj_keeper.specs.Standing.{GoesOn, IsOneOf, IsSound, MayPut, Sees, Stands, StandsBy, told_on}
+use Rattle.mj_keeper.specs.Standing.{IsOneOf, IsSound, MayPut, StandsBy, told_on}
 use Rattle.mj_keeper.specs.declared.keeper.Keeper.{Keeper}
 use Rattle.mj_keeper.specs.declared.keeper.Shelf.{Shelf}
 use Rattle.mj_keeper.specs.declared.keeper.Shelf.TheVariants as shelves
-use Rattle.mj_routing.specs.Staying.{IsQueueOf, StaysBeside}
-use Rattle.mj_titanic.specs.Acting.{Agree, Did, Ends, IsAt, IsRefused, Stopped, seen}
+use Rattle.mj_routing.specs.Staying.{StaysBeside}
+use Rattle.mj_titanic.specs.Acting.{Did, Ends, IsAt, IsRefused, Stopped, seen}
 use Rattle.mj_titanic.specs.declared.fault.ActFault.{ActFault}
 use Rattle.mj_titanic.specs.declared.parts.Parts.{Parts}
 use Rattle.mj_titanic.proofs.Composing.{did-as, goes-more, goes-nowhere}
@@ -36,12 +34,12 @@ use Rattle.mj_titanic.proofs.Rowing.{goes-among}
 use Rattle.mj_broker.specs.declared.fault.EventFault.{EventFault}
 use Rattle.mj_broker.specs.declared.wires.Link.{Link}
 use Rattle.mj_broker.specs.Acting.{as_it_is, stores_while}
-use Rattle.mj_broker.specs.BrokerState.{AreAmong, AreReady, AreSettled, Halted, Happened, IsKept, Links}
-use Rattle.mj_broker.specs.Handling.{Broke, BrokerValue, Handled, IsBroker, IsRefusing, limits_of, noted}
-use Rattle.mj_broker.specs.Wires.{AreFresh, AreLimited, MayBeFed, SameLimits, SameNumbers, WiresStand, kept_links, wire_of}
+use Rattle.mj_broker.specs.BrokerState.{AreAmong, AreReady, AreSettled, Halted, Happened, Links}
+use Rattle.mj_broker.specs.Handling.{Broke, BrokerValue, Handled, IsBroker, IsRefusing, noted}
+use Rattle.mj_broker.specs.Wires.{AreFresh, AreLimited, MayBeFed, SameNumbers, WiresStand, kept_links, wire_of}
 use Rattle.mj_broker.proofs.ItemLemmas.{absent-behind}
 use Rattle.mj_broker.proofs.SettleLemmas.{none-did}
-use Rattle.mj_broker.proofs.WireLemmas.{fresh-kept, kept-wire, limits-kept, limits-linked, stands-linked, wires-kept}
+use Rattle.mj_broker.proofs.WireLemmas.{fresh-kept, kept-wire, limits-linked, stands-linked, wires-kept}
 
 -- the lane's connection has a reader
 pub wire-there : (lane n : ℕ) (cs : List Connection) (wires : List Link) → AreReady cs wires → number_on lane cs ≡ Some n → IsSome (wire_of n wires)
@@ -224,8 +222,7 @@ module _ {D : Type 0} (disks : Ghosts D) (event : Event) (old : Parts) (disk : D
     ends = λ m at.
         let w = entered m.state m.store (notes_in h.did.added) in
         let what = h.is m at.state at.streams in
-        let e = subst (λ (x : Happening). Ends disks (seen new) after h.did.added w (happens x w)) (sym what) (h.did.ends w (at-start m (notes_in h.did.added) at) (λ k low high. (refl, refl))) in
-        (
+        let e = subst (λ (x : Happening). Ends disks (seen new) after h.did.added w (happens x w)) (sym what) (h.did.ends w (at-start m (notes_in h.did.added) at) (λ k low high. (refl, refl))) in (
           record {
             state = e.at.routing;
             limited = e.at.limited;

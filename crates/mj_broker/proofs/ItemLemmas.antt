@@ -1,15 +1,15 @@
 -- Items of a stream one by one, with the stores around their steps.
-use Rattle.std.proofs.Common.{◌≡◌, ◌<◌, ◌+◌, ℕ, zero, suc, Bool, true, false, cond, ◌==◌, length, get_or, add-one, drop-cons, List, [], ◌∷◌, ◌++◌, drop, Option, None, Some, refl, sym, ap, subst, ◌∙◌, inl, inr, append-nil}
+use Rattle.std.proofs.Common.{◌≡◌, ◌<◌, ◌+◌, ℕ, zero, suc, Bool, true, false, cond, ◌==◌, length, get_or, add-one, drop-cons, List, [], ◌∷◌, ◌++◌, drop, Option, None, Some, refl, sym, ap, subst, ◌∙◌, inl, inr}
 use Rattle.mj_base.specs.declared.event.Out.{Out}
 use Rattle.mj_disk.specs.declared.disk.Disk.{Ghosts}
 use Rattle.mj_wire.specs.declared.item.WireItem.{WireItem}
 use Rattle.mj_wire.specs.declared.item.WireItem.TheVariants as items
-use Rattle.mj_machine.specs.StoreState.{Store, Told}
+use Rattle.mj_machine.specs.StoreState.{Store}
 use Rattle.mj_machine.specs.MachineState.{Act, State, Whole}
-use Rattle.mj_machine.specs.Acts.{Doing, each, quiet, ◌then◌}
+use Rattle.mj_machine.specs.Acts.{Doing, each, ◌then◌}
 use Rattle.mj_machine.specs.Connections.{connection_of, number_on}
 use Rattle.mj_machine.specs.DiskActs.{routes}
-use Rattle.mj_machine.specs.EventStep.{Gains, Happening, Opens, closes_on, effect, gains, happens, item_step, opened, opens}
+use Rattle.mj_machine.specs.EventStep.{Gains, Opens, closes_on, effect, gains, happens, item_step, opened, opens}
 use Rattle.mj_machine.specs.declared.connection.Connection.{Connection}
 use Rattle.mj_machine.specs.declared.connection.Role.TheVariants.{Fresh}
 use Rattle.mj_keeper.specs.declared.keeper.Shelf.{Shelf}
@@ -19,12 +19,12 @@ use Rattle.mj_machine.specs.Pairing.{settles}
 use Rattle.mj_machine.specs.Steps.{IsChain, Step, effect_steps, gain_steps, item_steps, settle_steps, stores_in}
 use Rattle.mj_machine.specs.declared.said.Said.{Said}
 use Rattle.mj_machine.proofs.StepLemmas.{reads-effect, reads-item}
-use Rattle.mj_keeper.specs.Standing.{IsOneOf, IsSound, MayLeave}
+use Rattle.mj_keeper.specs.Standing.{IsOneOf, MayLeave}
 use Rattle.mj_routing.proofs.PlainLemmas.{beside-then}
 use Rattle.mj_titanic.specs.Acting.{Did, IsAt, Stopped, around, nowhere, seen}
 use Rattle.mj_titanic.specs.declared.fault.ActFault.{ActFault}
 use Rattle.mj_titanic.specs.declared.parts.Parts.{Parts}
-use Rattle.mj_titanic.proofs.Composing.{did-as, did-nothing, did-stopped, did-then, one-of-first, one-of-second, stopped-as}
+use Rattle.mj_titanic.proofs.Composing.{did-as, did-nothing, did-stopped, did-then, one-of-first, stopped-as}
 use Rattle.mj_titanic.proofs.Continuing.{KeepsStore}
 use Rattle.mj_titanic.proofs.Rowing.{did-among, stopped-among}
 use Rattle.mj_broker.specs.Acting.{Acted, around_item, as_it_is, stores_around, stores_each, stores_while}

@@ -1,10 +1,10 @@
 -- What was done on what is routed, as a part of an event; and two parts in a row.
-use Rattle.std.proofs.Common.{◌≡◌, ℕ, Bool, List, [], ◌∷◌, ◌++◌, Option, None, Some, refl, sym, ap, subst, ◌∙◌, inl, inr, append-nil, Result, Ok, Err, OnOk}
+use Rattle.std.proofs.Common.{◌≡◌, ℕ, Bool, List, [], ◌++◌, Option, None, Some, refl, sym, ap, subst, inl, inr, append-nil, Result, Ok, Err, OnOk}
 use Rattle.mj_base.specs.declared.event.Out.{Out}
 use Rattle.mj_disk.specs.declared.disk.Disk.{Ghosts}
 use Rattle.mj_machine.specs.StoreState.{Store, Told}
 use Rattle.mj_machine.specs.MachineState.{Act, Done, State, Whole}
-use Rattle.mj_machine.specs.Acts.{Doing, quiet, ◌then◌}
+use Rattle.mj_machine.specs.Acts.{quiet, ◌then◌}
 use Rattle.mj_machine.specs.DiskActs.{routes}
 use Rattle.mj_machine.specs.MessageStep.{rests, says, says_by}
 use Rattle.mj_machine.specs.declared.connection.Connection.{Connection}
@@ -12,7 +12,7 @@ use Rattle.mj_machine.specs.declared.said.Said.{Said}
 use Rattle.mj_routing.specs.Places.{standing_of}
 use Rattle.mj_routing.specs.declared.connections.Standing.{Standing}
 use Rattle.mj_titanic.proofs.Telling.{told-sees}
-use Rattle.mj_keeper.specs.Standing.{IsOneOf, IsSound, MayLeave, told_on}
+use Rattle.mj_keeper.specs.Standing.{IsSound, MayLeave, told_on}
 use Rattle.mj_routing.specs.RoutingState.{Does}
 use Rattle.mj_routing.specs.Staying.{IsPlain, Stays, StaysBeside}
 use Rattle.mj_routing.proofs.PlainLemmas.{beside, beside-then, plain-quiet, stays-same}
@@ -191,4 +191,3 @@ standing-some n (Some c) s said w e =
 
 pub rests-keep : (last : Bool) (n : ℕ) (service : List ℕ) → KeepsStore (routes (rests last n service))
 rests-keep last n service w = refl
-

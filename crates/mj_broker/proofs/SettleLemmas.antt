@@ -1,5 +1,5 @@
 -- Settling pair by pair, and what a crash may leave of it.
-use Rattle.std.proofs.Common.{◌≡◌, ◌+◌, ◌<◌, ◌≤◌, ℕ, Bool, true, false, List, [], ◌∷◌, ◌++◌, length, Option, None, Some, refl, sym, ap, subst, ◌∙◌, inl, inr, arith, append-nil, MatchOption}
+use Rattle.std.proofs.Common.{◌≡◌, ◌+◌, ◌<◌, ℕ, Bool, true, false, List, [], ◌∷◌, ◌++◌, length, Option, None, Some, refl, sym, ap, subst, ◌∙◌, inl, inr, arith, append-nil, MatchOption}
 use Rattle.std.proofs.lemmas.List.{append_cancel_left}
 use Rattle.std.specs.Option.{is_some, option_map}
 use Rattle.std.specs.List.{list_any}
@@ -18,19 +18,19 @@ use Rattle.mj_queue.specs.declared.request.Origin.TheVariants as origins
 use Rattle.mj_tickets.specs.declared.command.TicketCmd.{TicketCmd}
 use Rattle.mj_store.specs.Commands.{OpensFor}
 use Rattle.mj_tickets.specs.Fold.{ticket_of}
-use Rattle.mj_machine.specs.StoreState.{Access, Open, Shut, Store, Told, body_in, doubted, ticket_body}
-use Rattle.mj_machine.specs.MachineState.{Act, Done, State, Whole}
-use Rattle.mj_machine.specs.Acts.{Doing, behind, quiet, ◌then◌}
-use Rattle.mj_machine.specs.DiskActs.{attempted, counted, fails, notes_in, reading, routes, says_shut}
+use Rattle.mj_machine.specs.StoreState.{Shut, Store, Told, body_in, ticket_body}
+use Rattle.mj_machine.specs.MachineState.{Act, State, Whole}
+use Rattle.mj_machine.specs.Acts.{Doing, ◌then◌}
+use Rattle.mj_machine.specs.DiskActs.{attempted, counted, fails, notes_in, routes, says_shut}
 use Rattle.mj_machine.specs.Pairing.{dispatched, dispatches, hands, passes, settles}
 use Rattle.mj_machine.proofs.ListLemmas.{all-rest}
 use Rattle.mj_machine.proofs.SettlingLemmas.{settles-none, settles-turn}
-use Rattle.mj_keeper.specs.Standing.{IsOneOf, IsOpenWith, IsSound, MayLeave, Sees, StandsBy, told_on}
+use Rattle.mj_keeper.specs.Standing.{IsOpenWith, IsSound, MayLeave, Sees, StandsBy, told_on}
 use Rattle.mj_keeper.specs.declared.keeper.Keeper.{Keeper}
 use Rattle.mj_keeper.specs.declared.keeper.Shelf.{Shelf}
 use Rattle.mj_keeper.specs.declared.keeper.Shelf.TheVariants as shelves
 use Rattle.mj_routing.specs.RoutingState.{Does, Gives}
-use Rattle.mj_routing.specs.Staying.{IsQueueOf, OnlyClients, StaysBeside}
+use Rattle.mj_routing.specs.Staying.{IsQueueOf, OnlyClients}
 use Rattle.mj_routing.proofs.FewerLemmas.{fewer-hands}
 use Rattle.mj_routing.proofs.PlainLemmas.{plain-hands}
 use Rattle.mj_titanic.specs.Acting.{Agree, AreOf, Did, Ends, IsAt, Stopped, around, nowhere, seen}

@@ -11,15 +11,15 @@ use Rattle.mj_machine.specs.Acts.{each, quiet, ◌then◌}
 use Rattle.mj_machine.specs.EventStep.{Happening}
 use Rattle.mj_machine.specs.Steps.{gain_steps, happening_steps, item_steps, stores_in}
 use Rattle.mj_machine.specs.DiskActs.{routes}
-use Rattle.mj_machine.specs.MachineState.{Act, Done, State, Whole}
+use Rattle.mj_machine.specs.MachineState.{Act, Whole}
 use Rattle.mj_machine.specs.MessageStep.{as_client, delivers, marked, rests}
 use Rattle.mj_machine.specs.TitanicStep.{serves, titanic_of}
-use Rattle.mj_machine.specs.StoreState.{Store, Told}
+use Rattle.mj_machine.specs.StoreState.{Store}
 use Rattle.mj_keeper.specs.Standing.{IsSound}
 use Rattle.mj_keeper.specs.declared.keeper.Shelf.{Shelf}
 use Rattle.mj_keeper.specs.declared.keeper.Shelf.TheVariants as shelves
 use Rattle.mj_routing.specs.Staying.{StaysBeside}
-use Rattle.mj_titanic.specs.Acting.{Did, around, seen}
+use Rattle.mj_titanic.specs.Acting.{Did, seen}
 use Rattle.mj_titanic.specs.declared.parts.Parts.{Parts}
 
 -- an act of the machine was done, and what keeps tickets and the disk stand for one still

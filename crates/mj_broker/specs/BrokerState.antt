@@ -1,5 +1,5 @@
 -- When a broker stands for the machine.
-use Rattle.std.specs.Prelude.{ℕ, ◌≡◌, ⊤, Bool, true, false, List, [], ◌∷◌, Option, None, Some}
+use Rattle.std.specs.Prelude.{ℕ, ◌≡◌, ⊤, true, false, List, [], ◌∷◌, None, Some}
 use Rattle.mj_base.specs.LawfulLimits.{are_lawful}
 use Rattle.mj_base.specs.declared.limits.Limits.{Limits}
 use Rattle.mj_base.specs.declared.event.Event.{Event}
@@ -9,7 +9,7 @@ use Rattle.mj_base.specs.declared.event.Out.{Out}
 use Rattle.mj_disk.specs.declared.disk.Disk.{Ghosts}
 use Rattle.mj_queue.specs.Settling.{pair}
 use Rattle.mj_machine.specs.StoreState.{Store, Told}
-use Rattle.mj_machine.specs.MachineState.{Machine, State, Stream, Whole, entered}
+use Rattle.mj_machine.specs.MachineState.{Machine, State, Whole, entered}
 use Rattle.mj_machine.specs.EventStep.{Happening, happening, happens, streams_after}
 use Rattle.mj_machine.specs.Connections.{connection_of, number_on}
 use Rattle.mj_machine.specs.Steps.{stores_of}

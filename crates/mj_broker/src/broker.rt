@@ -35,7 +35,7 @@ impl Model for Broker {
     ghost use Rattle.std.specs.Prelude.{◌≡◌, false};
     ghost use Rattle.mj_broker.specs.BrokerState.{IsKept};
     ghost use Rattle.mj_broker.specs.Wires.{AreLimited};
-ghost use Rattle.mj_broker.specs.Handling.{BrokerValue};
+    ghost use Rattle.mj_broker.specs.Handling.{BrokerValue};
 
     ghost Value = { BrokerValue };
 

@@ -76,13 +76,7 @@ fn greet<D: Disk>(
     ensures stopped { IfErr result (λ fault. Stopped D.Disk fault (seen parts.old) disk.now disk.now nowhere) }
     ensures keeper { parts.new.keeping.keeper ≡ record parts.old.keeping.keeper { shelf = parts.new.keeping.keeper.shelf } }
 {
-    match route_greeting(
-        alloc,
-        &mut parts.routing,
-        lane,
-        &parts.keeping.keeper,
-        outs,
-    ) {
+    match route_greeting(alloc, &mut parts.routing, lane, &parts.keeping.keeper, outs) {
         Ok(()) => Ok(()),
         Err(NoMemory) => Err(ActFault::NoMemory),
     }
@@ -236,7 +230,13 @@ fn send_ready<D: Disk>(
     ensures stopped { IfErr result (λ fault. Stopped D.Disk fault (seen parts.old) disk.now disk.now (around (item_step number WireItem.Accepted))) }
     ensures keeper { parts.new.keeping.keeper ≡ record parts.old.keeping.keeper { shelf = parts.new.keeping.keeper.shelf } }
 {
-    match route_ready(alloc, &mut parts.routing, number, &parts.keeping.keeper, outs) {
+    match route_ready(
+        alloc,
+        &mut parts.routing,
+        number,
+        &parts.keeping.keeper,
+        outs,
+    ) {
         Ok(()) => Ok(()),
         Err(NoMemory) => Err(ActFault::NoMemory),
     }
@@ -270,7 +270,14 @@ fn end_at<D: Disk>(
     ensures stopped { IfErr result (λ fault. Stopped D.Disk fault (seen parts.old) disk.now disk.now (around (routes (ends_at number reason at)))) }
     ensures keeper { parts.new.keeping.keeper ≡ record parts.old.keeping.keeper { shelf = parts.new.keeping.keeper.shelf } }
 {
-    match route_end(&mut parts.routing, number, reason, at, &parts.keeping.keeper, outs) {
+    match route_end(
+        &mut parts.routing,
+        number,
+        reason,
+        at,
+        &parts.keeping.keeper,
+        outs,
+    ) {
         Ok(()) => Ok(()),
         Err(NoMemory) => Err(ActFault::NoMemory),
     }

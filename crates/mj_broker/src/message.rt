@@ -94,16 +94,16 @@ fn say_fresh<D: Disk>(
 {
     match said {
         Said::Neither => depart(parts, disk, number),
-        Said::Asks(cmd) => ask(alloc, parts, disk, lane, number, request_by(number, cmd), outs),
-        Said::Serves(cmd) => begin(
+        Said::Asks(cmd) => ask(
             alloc,
             parts,
             disk,
+            lane,
             number,
-            voice_in(&cmd),
-            cmd.act,
+            request_by(number, cmd),
             outs,
         ),
+        Said::Serves(cmd) => begin(alloc, parts, disk, number, voice_in(&cmd), cmd.act, outs),
     }
 }
 
@@ -125,16 +125,16 @@ fn say_client<D: Disk>(
 {
     match said {
         Said::Neither => depart(parts, disk, number),
-        Said::Asks(cmd) => ask(alloc, parts, disk, lane, number, request_by(number, cmd), outs),
-        Said::Serves(cmd) => stray(
+        Said::Asks(cmd) => ask(
             alloc,
             parts,
             disk,
+            lane,
             number,
-            voice_in(&cmd),
-            &cmd.act,
+            request_by(number, cmd),
             outs,
         ),
+        Said::Serves(cmd) => stray(alloc, parts, disk, number, voice_in(&cmd), &cmd.act, outs),
     }
 }
 
@@ -304,7 +304,17 @@ fn reply<D: Disk>(
     if !is_address(address.as_slice(), request.origin) {
         return refuse(alloc, parts, disk, number, voice_at(&registration), outs);
     }
-    take_reply(alloc, parts, disk, number, &registration.service, last, &request, body, outs)
+    take_reply(
+        alloc,
+        parts,
+        disk,
+        number,
+        &registration.service,
+        last,
+        &request,
+        body,
+        outs,
+    )
 }
 
 /// A reply that counts.
@@ -353,9 +363,7 @@ fn pass_on<D: Disk>(
     ensures keeper { parts.new.keeping.keeper ≡ record parts.old.keeping.keeper { shelf = parts.new.keeping.keeper.shelf } }
 {
     match request.origin {
-        Origin::Client(client) => {
-            deliver(alloc, parts, disk, client, last, request, body, outs)
-        }
+        Origin::Client(client) => { deliver(alloc, parts, disk, client, last, request, body, outs) }
         Origin::Ticket(number) => {
             if last {
                 keep(alloc, parts, disk, number, &body, outs)
@@ -401,7 +409,14 @@ fn refuse<D: Disk>(
     ensures stopped { IfErr result (λ fault. Stopped D.Disk fault (seen parts.old) disk.now disk.now (around (routes (unexpected number voice)))) }
     ensures keeper { parts.new.keeping.keeper ≡ record parts.old.keeping.keeper { shelf = parts.new.keeping.keeper.shelf } }
 {
-    match rows::refuse(alloc, &mut parts.routing, number, voice, &parts.keeping.keeper, outs) {
+    match rows::refuse(
+        alloc,
+        &mut parts.routing,
+        number,
+        voice,
+        &parts.keeping.keeper,
+        outs,
+    ) {
         Ok(()) => Ok(()),
         Err(NoMemory) => Err(ActFault::NoMemory),
     }
@@ -421,7 +436,14 @@ fn answer<D: Disk>(
     ensures stopped { IfErr result (λ fault. Stopped D.Disk fault (seen parts.old) disk.now disk.now (around (routes (answers_itself number request.now)))) }
     ensures keeper { parts.new.keeping.keeper ≡ record parts.old.keeping.keeper { shelf = parts.new.keeping.keeper.shelf } }
 {
-    match rows::answer(alloc, &mut parts.routing, number, request, &parts.keeping.keeper, outs) {
+    match rows::answer(
+        alloc,
+        &mut parts.routing,
+        number,
+        request,
+        &parts.keeping.keeper,
+        outs,
+    ) {
         Ok(()) => Ok(()),
         Err(NoMemory) => Err(ActFault::NoMemory),
     }
@@ -442,7 +464,15 @@ fn begin<D: Disk>(
     ensures stopped { IfErr result (λ fault. Stopped D.Disk fault (seen parts.old) disk.now disk.now (around (routes (begins number voice act)))) }
     ensures keeper { parts.new.keeping.keeper ≡ record parts.old.keeping.keeper { shelf = parts.new.keeping.keeper.shelf } }
 {
-    match rows::begin(alloc, &mut parts.routing, number, voice, act, &parts.keeping.keeper, outs) {
+    match rows::begin(
+        alloc,
+        &mut parts.routing,
+        number,
+        voice,
+        act,
+        &parts.keeping.keeper,
+        outs,
+    ) {
         Ok(()) => Ok(()),
         Err(NoMemory) => Err(ActFault::NoMemory),
     }
@@ -463,7 +493,15 @@ fn stray<D: Disk>(
     ensures stopped { IfErr result (λ fault. Stopped D.Disk fault (seen parts.old) disk.now disk.now (around (routes (strays number voice act.now)))) }
     ensures keeper { parts.new.keeping.keeper ≡ record parts.old.keeping.keeper { shelf = parts.new.keeping.keeper.shelf } }
 {
-    match rows::stray(alloc, &mut parts.routing, number, voice, act, &parts.keeping.keeper, outs) {
+    match rows::stray(
+        alloc,
+        &mut parts.routing,
+        number,
+        voice,
+        act,
+        &parts.keeping.keeper,
+        outs,
+    ) {
         Ok(()) => Ok(()),
         Err(NoMemory) => Err(ActFault::NoMemory),
     }
@@ -485,7 +523,16 @@ fn deliver<D: Disk>(
     ensures stopped { IfErr result (λ fault. Stopped D.Disk fault (seen parts.old) disk.now disk.now (around (routes (delivers_back client last request.now body)))) }
     ensures keeper { parts.new.keeping.keeper ≡ record parts.old.keeping.keeper { shelf = parts.new.keeping.keeper.shelf } }
 {
-    match rows::deliver(alloc, &mut parts.routing, client, last, request, body, &parts.keeping.keeper, outs) {
+    match rows::deliver(
+        alloc,
+        &mut parts.routing,
+        client,
+        last,
+        request,
+        body,
+        &parts.keeping.keeper,
+        outs,
+    ) {
         Ok(()) => Ok(()),
         Err(NoMemory) => Err(ActFault::NoMemory),
     }
@@ -506,18 +553,17 @@ fn queue<D: Disk>(
     ensures stopped { IfErr result (λ fault. Stopped D.Disk fault (seen parts.old) disk.now disk.now (around (routes (queues lane number request)))) }
     ensures keeper { parts.new.keeping.keeper ≡ record parts.old.keeping.keeper { shelf = parts.new.keeping.keeper.shelf } }
 {
-    match parts.routing.queue(lane, number, request, &parts.keeping.keeper, outs) {
+    match parts
+        .routing
+        .queue(lane, number, request, &parts.keeping.keeper, outs)
+    {
         Ok(()) => Ok(()),
         Err(NoMemory) => Err(ActFault::NoMemory),
     }
 }
 
 /// The connection is passed over from now on, and is told nothing.
-fn depart<D: Disk>(
-    parts: &mut Parts,
-    disk: &D,
-    number: u64,
-) -> Result<(), ActFault>
+fn depart<D: Disk>(parts: &mut Parts, disk: &D, number: u64) -> Result<(), ActFault>
     requires sound { IsSound D.Disk parts.old.keeping.keeper disk.now }
     ensures acted { OnOk result ((outs : List AnOut) → Acted D.Disk parts.old disk.now parts.new disk.now outs outs (routes (departs number)) (around (routes (departs number)))) }
     ensures stopped { IfErr result (λ fault. Stopped D.Disk fault (seen parts.old) disk.now disk.now (around (routes (departs number)))) }
@@ -530,11 +576,7 @@ fn depart<D: Disk>(
 }
 
 /// The worker was heard.
-fn mark<D: Disk>(
-    parts: &mut Parts,
-    disk: &D,
-    number: u64,
-) -> Result<(), ActFault>
+fn mark<D: Disk>(parts: &mut Parts, disk: &D, number: u64) -> Result<(), ActFault>
     requires sound { IsSound D.Disk parts.old.keeping.keeper disk.now }
     ensures acted { OnOk result ((outs : List AnOut) → Acted D.Disk parts.old disk.now parts.new disk.now outs outs (hears number) (around (hears number))) }
     ensures stopped { IfErr result (λ fault. Stopped D.Disk fault (seen parts.old) disk.now disk.now (around (hears number))) }
@@ -603,4 +645,3 @@ fn is_same_version(version: Version, other: Version) -> bool
         (Version::One, Version::Two) | (Version::Two, Version::One) => false,
     }
 }
-

@@ -76,9 +76,7 @@ pub fn begin(
 {
     match act {
         WorkerAct::Ready(service) => enlist(alloc, routing, number, voice, &service, tickets, outs),
-        WorkerAct::Disconnect => {
-            routing.go(number, tickets)
-        }
+        WorkerAct::Disconnect => { routing.go(number, tickets) }
         WorkerAct::Heartbeat => refuse(alloc, routing, number, voice, tickets, outs),
         WorkerAct::Reply {
             last: _last,

@@ -127,7 +127,10 @@ fn send_empty<D: Disk>(
         return Err(ActFault::NoMemory);
     };
     parts.keeping.acts = next;
-    match parts.routing.hand(alloc, Frames::new(alloc), &parts.keeping.keeper, outs) {
+    match parts
+        .routing
+        .hand(alloc, Frames::new(alloc), &parts.keeping.keeper, outs)
+    {
         Ok(()) => Ok(()),
         Err(NoMemory) => Err(ActFault::NoMemory),
     }

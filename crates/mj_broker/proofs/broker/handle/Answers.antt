@@ -1,7 +1,7 @@
 use Rattle.std.proofs.Common.{arith, refl}
 use Rattle.std.proofs.lemmas.Result.{IfErr-weaker, on_ok_weaker}
 use Rattle.mj_base.specs.declared.event.Event.TheVariants as events
-use Rattle.mj_machine.specs.EventStep.{Closes, Reports, Stops, Ticks}
+use Rattle.mj_machine.specs.EventStep.{Closes, Reports, Ticks}
 use Rattle.mj_broker.proofs.BrokerLemmas.{early-halted, ready-stays, stopped-happened, unfed-happened}
 use Rattle.mj_broker.proofs.broker.handle.Goals as goal
 

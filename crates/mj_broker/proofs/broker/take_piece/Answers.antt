@@ -1,4 +1,4 @@
-use Rattle.std.proofs.Common.{◌≡◌, arith, sym, ◌∙◌, subst, List}
+use Rattle.std.proofs.Common.{arith, sym, ◌∙◌, subst, List}
 use Rattle.std.proofs.lemmas.Result.{IfErr-weaker, on_ok_weaker}
 use Rattle.mj_base.specs.declared.event.Event.TheVariants as events
 use Rattle.mj_wire.specs.declared.item.WireItem.{WireItem}

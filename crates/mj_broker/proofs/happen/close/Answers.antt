@@ -2,7 +2,6 @@ use Rattle.std.proofs.Common.{refl}
 use Rattle.std.proofs.lemmas.Result.{IfErr-weaker, on_ok_weaker}
 use Rattle.mj_machine.specs.DiskActs.{routes}
 use Rattle.mj_machine.specs.EventStep.{closes_on}
-use Rattle.mj_titanic.specs.declared.parts.Parts.{Parts}
 use Rattle.mj_broker.proofs.ItemLemmas.{settled-acted, settled-first, settled-stopped}
 use Rattle.mj_broker.proofs.happen.close.Goals as goal
 

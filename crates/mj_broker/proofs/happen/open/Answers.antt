@@ -1,7 +1,7 @@
 use Rattle.std.proofs.Common.{refl}
 use Rattle.std.proofs.lemmas.Result.{IfErr-weaker, on_ok_weaker}
 use Rattle.mj_machine.specs.DiskActs.{routes}
-use Rattle.mj_machine.specs.EventStep.{closes_on, opened, opens}
+use Rattle.mj_machine.specs.EventStep.{closes_on}
 use Rattle.mj_broker.proofs.ItemLemmas.{opened-did, opened-greeted, opened-stays, opened-stopped, settled-first}
 use Rattle.mj_broker.proofs.happen.open.Goals as goal
 

@@ -2,8 +2,7 @@ use Rattle.std.proofs.Common.{refl}
 use Rattle.std.proofs.lemmas.Result.{IfErr-weaker, on_ok_weaker}
 use Rattle.mj_machine.specs.DiskActs.{routes}
 use Rattle.mj_machine.specs.EventStep.{reports_on}
-use Rattle.mj_titanic.specs.declared.parts.Parts.{Parts}
-use Rattle.mj_broker.proofs.ItemLemmas.{settled-acted, settled-first, settled-stopped}
+use Rattle.mj_broker.proofs.ItemLemmas.{settled-acted, settled-stopped}
 use Rattle.mj_broker.proofs.happen.report.Goals as goal
 
 pub returns-clause-acted : goal.returns-clause-acted

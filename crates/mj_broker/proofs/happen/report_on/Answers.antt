@@ -1,4 +1,4 @@
-use Rattle.std.proofs.Common.{◌≡◌, ℕ, Option, Some, None, sym, ap, ◌∙◌, refl, subst}
+use Rattle.std.proofs.Common.{ℕ, Option, sym, ap, ◌∙◌}
 use Rattle.mj_keeper.specs.Standing.{told_on}
 use Rattle.mj_machine.specs.Connections.{number_on}
 use Rattle.mj_machine.specs.EventStep.{reports}

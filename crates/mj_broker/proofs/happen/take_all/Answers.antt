@@ -1,4 +1,4 @@
-use Rattle.std.proofs.Common.{◌≡◌, ap, sym, ◌∙◌, refl, List, subst, drop, ◌+◌}
+use Rattle.std.proofs.Common.{ap, sym, ◌∙◌, refl, List, subst, drop, ◌+◌}
 use Rattle.std.proofs.Math.ListN.{drop_of_length-le}
 use Rattle.mj_wire.specs.declared.item.WireItem.{WireItem}
 use Rattle.mj_machine.specs.Acts.{each}

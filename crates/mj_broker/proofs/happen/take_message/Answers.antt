@@ -1,6 +1,5 @@
 use Rattle.std.proofs.Common.{subst, sym}
 use Rattle.std.proofs.lemmas.Result.{IfErr-weaker, on_ok_weaker}
-use Rattle.mj_machine.specs.declared.said.Said.{Said}
 use Rattle.mj_broker.specs.Bodies.{IsShortSaid}
 use Rattle.mj_broker.proofs.BodyLemmas.{said-short}
 use Rattle.mj_broker.proofs.ItemLemmas.{message-acted, message-first, message-stopped}

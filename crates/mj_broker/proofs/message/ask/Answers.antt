@@ -1,6 +1,5 @@
-use Rattle.std.proofs.Common.{◌≡◌, ℕ, Bool, true, false, Option, Some, None, List, sym, ap, ◌∙◌, refl, subst}
+use Rattle.std.proofs.Common.{Bool, false, sym, ap, ◌∙◌}
 use Rattle.std.proofs.lemmas.Result.{IfErr-weaker, on_ok_weaker}
-use Rattle.mj_machine.specs.Acts.{quiet}
 use Rattle.mj_machine.specs.DiskActs.{routes}
 use Rattle.mj_base.specs.ServiceName.{is_reserved}
 use Rattle.mj_machine.specs.MessageStep.{answers_itself, asks, asks_by, queues}

@@ -1,15 +1,13 @@
-use Rattle.std.proofs.Common.{◌≡◌, ℕ, Bool, true, false, Option, Some, None, List, sym, ap, ◌∙◌, refl, subst}
+use Rattle.std.proofs.Common.{ℕ, Bool, Option, List, sym, ap, ◌∙◌}
 use Rattle.std.proofs.lemmas.Result.{IfErr-weaker, on_ok_weaker}
-use Rattle.mj_machine.specs.Acts.{quiet}
 use Rattle.mj_machine.specs.DiskActs.{routes}
 use Rattle.mj_machine.specs.declared.connection.Voice.{Voice}
-use Rattle.mj_machine.specs.Connections.{worker_voice}
 use Rattle.std.specs.Str.{bytes_eq}
 use Rattle.mj_queue.specs.declared.request.Request.{Request}
 use Rattle.mj_machine.specs.Leaving.{held_by}
 use Rattle.mj_machine.specs.MessageStep.{replied, replied_by, unexpected}
 use Rattle.mj_machine.specs.Sending.{address}
-use Rattle.mj_broker.specs.Acting.{as_it_is, takes_reply}
+use Rattle.mj_broker.specs.Acting.{takes_reply}
 use Rattle.mj_broker.proofs.Lifting.{act-as, halt-as, halted}
 use Rattle.mj_broker.proofs.message.reply.Goals as goal
 

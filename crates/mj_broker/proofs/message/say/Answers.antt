@@ -1,7 +1,5 @@
-use Rattle.std.proofs.Common.{◌≡◌, ℕ, Bool, true, false, Option, Some, None, List, sym, ap, ◌∙◌, refl, subst}
+use Rattle.std.proofs.Common.{sym, ◌∙◌}
 use Rattle.std.proofs.lemmas.Result.{IfErr-weaker, on_ok_weaker}
-use Rattle.mj_machine.specs.Acts.{quiet}
-use Rattle.mj_machine.specs.DiskActs.{routes}
 use Rattle.mj_machine.specs.Connections.{connection_of}
 use Rattle.mj_machine.specs.MessageStep.{says, says_by}
 use Rattle.mj_broker.proofs.Lifting.{act-as, acted-nothing, halt-as, standing-none, standing-some}

@@ -1,14 +1,11 @@
-use Rattle.std.proofs.Common.{◌≡◌, ℕ, Bool, true, false, Option, Some, None, List, sym, ap, ◌∙◌, refl, subst}
+use Rattle.std.proofs.Common.{sym, ap, ◌∙◌}
 use Rattle.std.proofs.lemmas.Result.{IfErr-weaker, on_ok_weaker}
-use Rattle.mj_machine.specs.Acts.{quiet}
 use Rattle.mj_machine.specs.DiskActs.{routes}
 use Rattle.mj_machine.specs.declared.connection.Voice.{Voice}
-use Rattle.mj_machine.specs.Connections.{worker_voice}
 use Rattle.mj_queue.specs.declared.request.Request.{Request}
-use Rattle.mj_machine.specs.MessageStep.{asks, begins, departs, request_of, says}
+use Rattle.mj_machine.specs.MessageStep.{asks, begins, departs, says}
 use Rattle.mj_machine.specs.declared.connection.Role.TheVariants.{Fresh}
 use Rattle.mj_machine.specs.declared.said.Said.{Said}
-use Rattle.mj_broker.specs.Bodies.{IsShort, IsShortSaid}
 use Rattle.mj_broker.proofs.Lifting.{act-as, halt-as}
 use Rattle.mj_broker.proofs.message.say_fresh.Goals as goal
 

@@ -2,7 +2,6 @@ use Rattle.std.proofs.Common.{refl}
 use Rattle.std.proofs.lemmas.Result.{IfErr-weaker, on_ok_weaker}
 use Rattle.mj_machine.specs.Acts.{◌then◌}
 use Rattle.mj_machine.specs.DiskActs.{routes}
-use Rattle.mj_machine.specs.MachineState.{Act}
 use Rattle.mj_machine.specs.MessageStep.{delivers, rests}
 use Rattle.mj_broker.specs.Acting.{hears, takes_reply}
 use Rattle.mj_broker.proofs.Lifting.{back, back-first, back-stopped, front, front-stopped, rests-keep, still-first}

@@ -1,9 +1,7 @@
-use Rattle.std.proofs.Common.{◌≡◌, ℕ, Bool, true, false, Option, Some, None, List, sym, ap, ◌∙◌, refl, subst}
+use Rattle.std.proofs.Common.{sym, ap, ◌∙◌, subst}
 use Rattle.std.proofs.lemmas.Result.{IfErr-weaker, on_ok_weaker}
-use Rattle.mj_machine.specs.Acts.{quiet}
 use Rattle.mj_machine.specs.DiskActs.{routes}
 use Rattle.mj_machine.specs.declared.connection.Voice.{Voice}
-use Rattle.mj_machine.specs.Connections.{worker_voice}
 use Rattle.mj_machine.specs.Leaving.{held_by}
 use Rattle.mj_machine.specs.MachineState.{State}
 use Rattle.mj_machine.specs.MessageStep.{departs, replied, unexpected, works_on}

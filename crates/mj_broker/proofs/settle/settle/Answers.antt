@@ -1,8 +1,8 @@
-use Rattle.std.proofs.Common.{◌≡◌, ap, sym, ◌∙◌, refl}
+use Rattle.std.proofs.Common.{ap, sym, ◌∙◌, refl}
 use Rattle.mj_keeper.specs.Standing.{told_on}
 use Rattle.mj_keeper.specs.declared.keeper.Keeper.{Keeper}
 use Rattle.mj_routing.proofs.PlainLemmas.{beside, beside-then, stays-same}
-use Rattle.mj_broker.proofs.SettleLemmas.{next-did, next-stopped, no-offer, none-did, offer-some, pair-stopped, was-none}
+use Rattle.mj_broker.proofs.SettleLemmas.{next-did, next-stopped, no-offer, none-did, pair-stopped, was-none}
 use Rattle.mj_broker.proofs.settle.settle.Goals as goal
 
 pub loop-offer-init : goal.loop-offer-init

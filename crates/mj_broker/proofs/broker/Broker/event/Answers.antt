@@ -1,9 +1,9 @@
-use Rattle.std.proofs.Common.{◌≡◌, List, true, false, ap, sym, ◌∙◌, subst, refl}
+use Rattle.std.proofs.Common.{◌≡◌, List, true, false, ap, sym, subst}
 use Rattle.mj_base.specs.LawfulLimits.{are_lawful}
 use Rattle.mj_keeper.specs.declared.keeper.Keeper.{Keeper}
 use Rattle.mj_titanic.specs.Acting.{IsRefused}
 use Rattle.mj_broker.specs.Handling.{Broke, BrokerValue, Handled}
-use Rattle.mj_broker.specs.Wires.{AreLimited, kept_links}
+use Rattle.mj_broker.specs.Wires.{AreLimited}
 use Rattle.mj_broker.specs.declared.fault.EventFault.TheVariants as faults
 use Rattle.mj_broker.specs.declared.wires.Link.{Link}
 use Rattle.mj_broker.proofs.BrokerLemmas.{absent-stored, broken, broken-still, handled, settled-kept, value}
