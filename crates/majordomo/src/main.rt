@@ -1,7 +1,8 @@
 //! The program: hands its words and the standard streams to the tool, and exits with its status.
 #![tactic(auto)]
 
-use mj_base::{StdSink, StdSource};
+use mj_base::{NoMemory, Octets, StdSink, StdSource};
+use mj_disk::MemoryDisk;
 use mj_prog::tool;
 use std::alloc::Global;
 use std::io::{ErrorKind, Read, Write};
@@ -34,5 +35,8 @@ fn run_tool<R: Read + Drop, W: Write + Drop>(
 ) -> u8 {
     let mut source = StdSource::new(reader);
     let mut sink = StdSink::new(writer);
-    tool(alloc, words, &mut source, &mut sink)
+    match MemoryDisk::new(alloc, Octets::new(alloc), 0, Vec::new(alloc), None) {
+        Ok(mut disk) => tool(alloc, words, &mut source, &mut disk, &mut sink),
+        Err(NoMemory) => 4,
+    }
 }

@@ -3,6 +3,7 @@ pub mod ScriptLines
 pub mod Inputs
 pub mod SoFar
 pub mod Printing
+pub mod Standing
 pub mod Runs
 pub mod StatusLaws
 pub mod Rows
@@ -13,3 +14,4 @@ pub mod Spelling
 pub mod OptionLaws
 pub mod RunLaws
 pub mod ReadingStops
+pub mod Untouched

@@ -1,18 +1,18 @@
 -- Laws of the rows of the statuses.
-use Rattle.std.proofs.Common.{◌≡◌, ℕ, List, [], ◌++◌, length, Option, refl, sym, ap, ◌∙◌, subst, append-nil, arith}
+use Rattle.std.proofs.Common.{◌≡◌, ℕ, List, [], ◌++◌, length, take, Option, refl, sym, ap, ◌∙◌, subst, append-nil}
 use Rattle.std.specs.Io.KnownBytes.{Appends}
-use Rattle.std.proofs.KnownBytes.{Appends-trans, Appends-kept, Appends-nil, Consumes-nil}
+use Rattle.std.proofs.KnownBytes.{Appends-trans, Appends-kept, Appends-nil}
 use Rattle.mj_base.specs.Writing.{AppendsFront, WriteAdds, WriteCause}
 use Rattle.mj_base.specs.declared.sink.WriteAnswer.{WriteAnswer}
 use Rattle.mj_base.specs.declared.sink.WriteAnswer.TheVariants as writes
-use Rattle.mj_prog.specs.declared.turn.Halt.TheVariants as halts
+use Rattle.mj_prog.specs.declared.halt.Halt.TheVariants as halts
 use Rattle.mj_prog.specs.Script.{Ending, WithText, AtStop, AtUnlawful, IsLawful, script}
-use Rattle.mj_prog.specs.Shown.{done_line}
-use Rattle.mj_prog.specs.ReplayTable.{IsInput, IsCutOff, IsUnwritten, printed, output, last_line}
-use Rattle.mj_prog.specs.Running.{IsHalted}
+use Rattle.mj_prog.specs.Shown.{done_line, store_line}
+use Rattle.mj_prog.specs.declared.halt.StoreFault.{StoreFault}
+use Rattle.mj_prog.specs.ReplayTable.{AppendsLine, IsInput, IsCutByStore, IsCutOff, IsUnwritten, printed, output, last_line}
+use Rattle.mj_prog.specs.Running.{DiskSeen, IsHalted}
 use Rattle.mj_prog.specs.SinkCounts.{SinkCounts, AreLater}
 use Rattle.mj_prog.specs.StatusRows.{IsRow, status_after}
-use Rattle.mj_prog.proofs.Inputs.{text-reading}
 use Rattle.mj_prog.proofs.Printing.{front-of, front-behind, rose-from}
 
 lawful-last : (ending : Ending) (events : ℕ) → IsLawful ending → last_line ending events ≡ done_line events
@@ -27,14 +27,14 @@ done-output lanes text events lawful count =
     ap (λ (line : List ℕ). printed lanes text ++ line) (lawful-last (script lanes text).ending (length (script lanes text).events) lawful ∙ ap done_line (sym count))
 
 -- a run to the script's end whose last line was written, or wasn't
-pub row-written : (lanes reads_before reads_now : ℕ) (writes_before m n : SinkCounts) (from left old mid new : Option (List ℕ)) (events : ℕ) (answer : WriteAnswer) → AreLater writes_before m
+pub row-written : (disk : DiskSeen) (lanes reads_before reads_now : ℕ) (writes_before m n : SinkCounts) (from left old mid new : Option (List ℕ)) (events : ℕ) (answer : WriteAnswer) → AreLater writes_before m
     → IsHalted from left lanes old mid events halts.Over → WriteAdds mid new answer (done_line events) → WriteCause m.faults n.faults answer
-    → IsRow lanes from left reads_before reads_now old new writes_before n (status_after answer)
-row-written lanes reads_before reads_now writes_before m n from left old mid new events writes.Done first halted adds cause =
+    → IsRow disk lanes from left reads_before reads_now old new writes_before n (status_after answer)
+row-written disk lanes reads_before reads_now writes_before m n from left old mid new events writes.Done first halted adds cause =
     (halted.0, halted.1, halted.2, subst (Appends old new) (sym (done-output lanes halted.0 events halted.2 halted.3)) (Appends-trans old mid new (printed lanes halted.0) (done_line events) halted.4 adds))
-row-written lanes reads_before reads_now writes_before m n from left old mid new events writes.NoMemory first halted adds cause =
+row-written disk lanes reads_before reads_now writes_before m n from left old mid new events writes.NoMemory first halted adds cause =
     (halted.0, halted.1, front-of old new (printed lanes halted.0) _ (output lanes halted.0) (Appends-kept old mid new (printed lanes halted.0) halted.4 adds) refl)
-row-written lanes reads_before reads_now writes_before m n from left old mid new events writes.Failed first halted adds cause = (
+row-written disk lanes reads_before reads_now writes_before m n from left old mid new events writes.Failed first halted adds cause = (
   rose-from writes_before.faults m.faults n.faults first.faults cause,
   (
     halted.0,
@@ -62,8 +62,10 @@ pub row-front : (lanes : ℕ) (from old new : Option (List ℕ)) → ((text : Li
 row-front lanes from old new front =
     (front.0, front.1, front-behind old old new [] (printed lanes front.0) _ (output lanes front.0) (Appends-nil old) front.2 refl)
 
--- a run that never began
-pub row-nothing : (lanes : ℕ) (from written : Option (List ℕ)) → IsCutOff lanes from written written
-row-nothing lanes from written =
-    let t = text-reading from from [] (Consumes-nil from) (omega arith) in
-    (t.0, t.2, front-of written written [] (output lanes t.0) (output lanes t.0) (Appends-nil written) refl)
+-- why the file is refused stands behind a front of what the events print
+pub row-store : (lanes : ℕ) (from old mid new : Option (List ℕ)) (before now : SinkCounts) (fault : StoreFault)
+    → (front : (text : List ℕ) × IsInput from text × AppendsFront old mid (printed lanes text))
+    → ((bytes : List ℕ) → Appends old mid bytes → AppendsLine old new before now bytes (store_line fault))
+    → IsCutByStore lanes from old new before now
+row-store lanes from old mid new before now fault front line =
+    (front.0, front.2.0, fault, front.1, line (take front.2.0 (printed lanes front.0)) front.2.1)

@@ -6,6 +6,7 @@ pub mod Words
 pub mod FoundValue
 pub mod ReplayTable
 pub mod ReadSoFar
+pub mod Standing
 pub mod Running
 pub mod Statuses
 pub mod StatusRows

@@ -8,7 +8,8 @@ use Rattle.mj_machine.specs.MachineState.{start}
 use Rattle.mj_machine.specs.MachineRun.{plainly, run_outs}
 use Rattle.mj_prog.specs.Script.{Ending, WithText, AtStop, AtUnlawful, script, IsLawful, ended_part}
 use Rattle.mj_prog.specs.SinkCounts.{SinkCounts}
-use Rattle.mj_prog.specs.Shown.{shown, done_line, fault_line, fault_read}
+use Rattle.mj_prog.specs.Shown.{shown, done_line, fault_line, fault_read, store_line}
+use Rattle.mj_prog.specs.declared.halt.StoreFault.{StoreFault}
 
 -- the script's text: the first 2^40 bytes of what the source has, where it tells
 abbrev pub IsInput : Option (List ℕ) → List ℕ → Type 0
@@ -45,6 +46,11 @@ abbrev pub IsRefused : ℕ → Option (List ℕ) → Option (List ℕ) → Optio
 IsRefused lanes from old new before now =
     (text : List ℕ) × (number : ℕ) × IsInput from text × ((script lanes text).ending ≡ AtUnlawful number)
     × AppendsLine old new before now (printed lanes text) (fault_line number)
+
+-- status 3: why the file is refused, behind a front of what the events print
+abbrev pub IsCutByStore : ℕ → Option (List ℕ) → Option (List ℕ) → Option (List ℕ) → SinkCounts → SinkCounts → Type 0
+IsCutByStore lanes from old new before now =
+    (text : List ℕ) × (n : ℕ) × (fault : StoreFault) × IsInput from text × AppendsLine old new before now (take n (printed lanes text)) (store_line fault)
 
 -- status 4: a front of what 0 or 2 prints
 abbrev pub IsCutOff : ℕ → Option (List ℕ) → Option (List ℕ) → Option (List ℕ) → Type 0

@@ -8,6 +8,8 @@ use Rattle.mj_base.specs.declared.event.Note.{Note}
 use Rattle.mj_base.specs.declared.event.Note.TheVariants as notes
 use Rattle.mj_base.specs.declared.event.Out.{Out}
 use Rattle.mj_base.specs.declared.event.Out.TheVariants as outs
+use Rattle.mj_prog.specs.declared.halt.StoreFault.{StoreFault}
+use Rattle.mj_prog.specs.declared.halt.StoreFault.TheVariants as stores
 
 abbrev pub reason_word : Reason → List ℕ
 reason_word reasons.BadSignature = codes "bad-signature"
@@ -48,6 +50,15 @@ done_line events = codes "done " ++ (decimal events ++ codes "\n")
 
 abbrev pub fault_line : ℕ → List ℕ
 fault_line number = codes "fault line " ++ (decimal number ++ codes "\n")
+
+-- why a file is refused as a store
+abbrev pub store_line : StoreFault → List ℕ
+store_line stores.NotAStore = codes "fault store not-a-store\n"
+store_line (stores.Version version) = codes "fault store version " ++ (decimal version ++ codes "\n")
+store_line (stores.Damaged at) = codes "fault store damaged " ++ (decimal at ++ codes "\n")
+
+abbrev pub fault_disk : List ℕ
+fault_disk = codes "fault disk\n"
 
 abbrev pub fault_words : List ℕ
 fault_words = codes "fault words\n"

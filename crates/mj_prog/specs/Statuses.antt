@@ -7,7 +7,9 @@ abbrev pub code_of : Status → ℕ
 code_of statuses.Done = 0
 code_of statuses.Words = 1
 code_of statuses.Line = 2
+code_of statuses.Store = 3
 code_of statuses.NoMemory = 4
+code_of statuses.Disk = 5
 code_of statuses.Read = 6
 code_of statuses.Write = 7
 

@@ -4,6 +4,7 @@
 mod act;
 mod finish;
 mod front;
+mod halt;
 mod line;
 mod meaning;
 mod next;
@@ -12,9 +13,9 @@ mod print;
 mod progress;
 mod read;
 mod run;
+mod script_ports;
 mod status;
 mod top_call;
-mod turn;
 mod words;
 
 pub use top_call::tool;

@@ -2,46 +2,75 @@ ghost use Rattle.std.specs.Prelude.{◌≡◌, ◌≤◌, IfOk, MatchResult, str
 ghost use Rattle.hex.specs.Hex.{encode_lower};
 ghost use Rattle.mj_base.specs.Writing.{WriteAdds, WriteCause};
 ghost use Rattle.mj_prog.specs.Shown;
-ghost use Rattle.mj_prog.specs.Shown.{line_of_out, shown};
-ghost use Rattle.mj_prog.specs.Running.{Prints};
+ghost use Rattle.mj_prog.specs.SinkCounts.{AreLater, counted};
+ghost use Rattle.mj_prog.specs.Standing.{AddsOut, AddsCause};
 ghost use Rattle.std.specs.Io.KnownBytes.{Keeps};
 ghost use Rattle.mj_base.specs.declared.sink.WriteAnswer;
+ghost use Rattle.mj_base.specs.declared.event.Out.TheVariants as outs;
 
-use mj_base::{NoMemory, Note, Out, Reason, Sink, WriteAnswer};
+use super::halt::StoreFault;
+use mj_base::{NoMemory, Note, Reason, Sink, WriteAnswer};
 use std::alloc::Global;
 
-/// Prints what the broker did, each on a line of its own.
-pub fn print_outs<K: Sink>(alloc: Global, outs: &Vec<Out>, out: &mut K) -> WriteAnswer
-    ensures octets { Prints (K.written out.old) (K.written out.new) result (shown outs.now.items) }
-    ensures later { K.faults out.old ≤ K.faults out.new }
-    ensures cause { WriteCause (K.faults out.old) (K.faults out.new) result }
-    ensures wants_later { K.wants out.old ≤ K.wants out.new }
+/// Prints a piece, unless what was printed before wasn't written.
+pub fn print_piece<K: Sink>(
+    alloc: Global,
+    wrote: WriteAnswer,
+    lane: u32,
+    piece: &[u8],
+    out: &mut K,
+) -> WriteAnswer
+    ensures prints { AddsOut (K.written out.old) (K.written out.new) wrote result (outs.Piece lane piece.now) }
+    ensures later { AreLater (counted (K.faults out.old) (K.wants out.old)) (counted (K.faults out.new) (K.wants out.new)) }
+    ensures cause { AddsCause (K.faults out.old) (K.faults out.new) wrote result }
 {
-    for item in outs {
-        match print_out(alloc, item, out) {
-            WriteAnswer::Done => {}
-            WriteAnswer::NoMemory => return WriteAnswer::NoMemory,
-            WriteAnswer::Failed => return WriteAnswer::Failed,
-        }
+    match wrote {
+        WriteAnswer::Done => print_text(put_line(alloc, lane, piece), out),
+        WriteAnswer::NoMemory => WriteAnswer::NoMemory,
+        WriteAnswer::Failed => WriteAnswer::Failed,
     }
-    WriteAnswer::Done
 }
 
-fn print_out<K: Sink>(alloc: Global, item: &Out, out: &mut K) -> WriteAnswer
-    ensures octets { WriteAdds (K.written out.old) (K.written out.new) result (line_of_out item.now) }
-    ensures later { K.faults out.old ≤ K.faults out.new }
-    ensures cause { WriteCause (K.faults out.old) (K.faults out.new) result }
-    ensures wants_later { K.wants out.old ≤ K.wants out.new }
+/// Prints an end, as `print_piece` prints a piece.
+pub fn print_end<K: Sink>(
+    alloc: Global,
+    wrote: WriteAnswer,
+    lane: u32,
+    reason: Reason,
+    at: u64,
+    out: &mut K,
+) -> WriteAnswer
+    ensures prints { AddsOut (K.written out.old) (K.written out.new) wrote result (outs.End lane reason at) }
+    ensures later { AreLater (counted (K.faults out.old) (K.wants out.old)) (counted (K.faults out.new) (K.wants out.new)) }
+    ensures cause { AddsCause (K.faults out.old) (K.faults out.new) wrote result }
 {
-    match item {
-        Out::Piece(lane, piece) => print_text(put_line(alloc, *lane, piece.as_slice()), out),
-        Out::End(lane, reason, at) => print_text(end_line(alloc, *lane, *reason, *at), out),
-        Out::Note(note) => print_text(note_line(alloc, *note), out),
+    match wrote {
+        WriteAnswer::Done => print_text(end_line(alloc, lane, reason, at), out),
+        WriteAnswer::NoMemory => WriteAnswer::NoMemory,
+        WriteAnswer::Failed => WriteAnswer::Failed,
+    }
+}
+
+/// Prints a note, as `print_piece` prints a piece.
+pub fn print_note<K: Sink>(
+    alloc: Global,
+    wrote: WriteAnswer,
+    note: Note,
+    out: &mut K,
+) -> WriteAnswer
+    ensures prints { AddsOut (K.written out.old) (K.written out.new) wrote result (outs.Note note) }
+    ensures later { AreLater (counted (K.faults out.old) (K.wants out.old)) (counted (K.faults out.new) (K.wants out.new)) }
+    ensures cause { AddsCause (K.faults out.old) (K.faults out.new) wrote result }
+{
+    match wrote {
+        WriteAnswer::Done => print_text(note_line(alloc, note), out),
+        WriteAnswer::NoMemory => WriteAnswer::NoMemory,
+        WriteAnswer::Failed => WriteAnswer::Failed,
     }
 }
 
 /// Writes a line, if there was memory to make it.
-pub fn print_text<K: Sink>(line: Result<String, NoMemory>, out: &mut K) -> WriteAnswer
+fn print_text<K: Sink>(line: Result<String, NoMemory>, out: &mut K) -> WriteAnswer
     ensures octets { MatchResult line (λ text. WriteAdds (K.written out.old) (K.written out.new) result (string_bytes text)) (λ _. (result ≡ WriteAnswer.NoMemory) × Keeps (K.written out.old) (K.written out.new)) }
     ensures later { K.faults out.old ≤ K.faults out.new }
     ensures cause { WriteCause (K.faults out.old) (K.faults out.new) result }
@@ -115,4 +144,15 @@ pub fn fault_line(alloc: Global, number: u64) -> Result<String, NoMemory>
     ensures { IfOk result (λ line. string_bytes line ≡ Shown.fault_line number) }
 {
     Ok(format!(in alloc; "fault line {number}\n")?)
+}
+
+/// The line that says why a file is refused.
+pub fn store_line(alloc: Global, fault: StoreFault) -> Result<String, NoMemory>
+    ensures { IfOk result (λ line. string_bytes line ≡ Shown.store_line fault) }
+{
+    match fault {
+        StoreFault::NotAStore => Ok(format!(in alloc; "fault store not-a-store\n")?),
+        StoreFault::Version(version) => Ok(format!(in alloc; "fault store version {version}\n")?),
+        StoreFault::Damaged(at) => Ok(format!(in alloc; "fault store damaged {at}\n")?),
+    }
 }

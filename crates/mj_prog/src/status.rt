@@ -10,8 +10,12 @@ pub enum Status {
     Words,
     /// A line of the script is unlawful.
     Line,
+    /// The file is refused as a store.
+    Store,
     /// There was no memory.
     NoMemory,
+    /// A call of the disk failed as a run began.
+    Disk,
     /// A read failed.
     Read,
     /// A write failed.
@@ -26,7 +30,9 @@ pub fn code(status: Status) -> u8
         Status::Done => 0,
         Status::Words => 1,
         Status::Line => 2,
+        Status::Store => 3,
         Status::NoMemory => 4,
+        Status::Disk => 5,
         Status::Read => 6,
         Status::Write => 7,
     }

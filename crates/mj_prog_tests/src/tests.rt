@@ -1,5 +1,6 @@
 use super::runs::{add_line, first_wrong_call};
 use mj_base::{MemorySink, MemorySource, Octets};
+use mj_disk::MemoryDisk;
 use mj_prog::tool;
 use std::alloc::{AllocError, Global};
 use std::test::Fail;
@@ -16,7 +17,14 @@ pub(crate) fn printed(
     octets.push_all(script)?;
     let mut source = MemorySource::new(octets, failing_reads.to_vec(alloc)?);
     let mut sink = MemorySink::new(alloc, failing_writes.to_vec(alloc)?);
-    let status = tool(alloc, &owned(alloc, words)?, &mut source, &mut sink);
+    let mut disk = MemoryDisk::new(alloc, Octets::new(alloc), 0, Vec::new(alloc), None)?;
+    let status = tool(
+        alloc,
+        &owned(alloc, words)?,
+        &mut source,
+        &mut disk,
+        &mut sink,
+    );
     Ok((sink.written().to_vec(alloc)?, status))
 }
 

@@ -1,5 +1,6 @@
 use Rattle.std.proofs.Common.{map, string_bytes, refl, ap, inl, ◌∙◌}
 use Rattle.mj_prog.specs.declared.status.Status.TheVariants as statuses
+use Rattle.mj_prog.specs.Running.{disk_seen}
 use Rattle.mj_prog.specs.SinkCounts.{counted}
 use Rattle.mj_prog.specs.Words.{options_in}
 use Rattle.mj_prog.specs.Statuses.{code_of}
@@ -20,7 +21,7 @@ use Rattle.mj_laws.proofs.SettledLemmas.{nobody_waits}
 use Rattle.mj_laws.proofs.SoundLemmas.{stays-sound}
 use Rattle.mj_laws.proofs.StorelessLemmas.{nothing_is_kept}
 use Rattle.mj_prog.proofs.RunLaws.{over-each}
-use Rattle.mj_prog.proofs.StatusLaws.{status-is, row-of, answers}
+use Rattle.mj_prog.proofs.StatusLaws.{status-is, row-of, answers, opening-row}
 use Rattle.mj_prog.proofs.top_call.tool.Goals as goal
 
 pub returns-clause-words : goal.returns-clause-words
@@ -34,37 +35,43 @@ returns-clause-refused_words g c = λ is. c.run_tool.ensures.refused_words (stat
 
 pub returns-clause-done : goal.returns-clause-done
 returns-clause-done g c = λ is.
-    row-of (options_in (map string_bytes c.args.words.now)) (g.S.Source.left c.args.src.now) (g.S.Source.left c.run_tool.new.src) (g.K.Sink.written c.args.out.now) (g.K.Sink.written c.run_tool.new.out)
+    row-of (disk_seen (g.D.Disk.told c.args.disk.now) (g.D.Disk.faults c.args.disk.now) (g.D.Disk.faults c.run_tool.new.disk)) (options_in (map string_bytes c.args.words.now)) (g.S.Source.left c.args.src.now) (g.S.Source.left c.run_tool.new.src) (g.K.Sink.written c.args.out.now) (g.K.Sink.written c.run_tool.new.out)
     (g.S.Source.faults c.args.src.now) (g.S.Source.faults c.run_tool.new.src) (counted (g.K.Sink.faults c.args.out.now) (g.K.Sink.wants c.args.out.now)) (counted (g.K.Sink.faults c.run_tool.new.out) (g.K.Sink.wants c.run_tool.new.out))
     c.code.result c.run_tool.result statuses.Done c.run_tool.ensures.rows c.code.ensures is
 
 pub returns-clause-unlawful : goal.returns-clause-unlawful
 returns-clause-unlawful g c = λ is.
-    row-of (options_in (map string_bytes c.args.words.now)) (g.S.Source.left c.args.src.now) (g.S.Source.left c.run_tool.new.src) (g.K.Sink.written c.args.out.now) (g.K.Sink.written c.run_tool.new.out)
+    row-of (disk_seen (g.D.Disk.told c.args.disk.now) (g.D.Disk.faults c.args.disk.now) (g.D.Disk.faults c.run_tool.new.disk)) (options_in (map string_bytes c.args.words.now)) (g.S.Source.left c.args.src.now) (g.S.Source.left c.run_tool.new.src) (g.K.Sink.written c.args.out.now) (g.K.Sink.written c.run_tool.new.out)
     (g.S.Source.faults c.args.src.now) (g.S.Source.faults c.run_tool.new.src) (counted (g.K.Sink.faults c.args.out.now) (g.K.Sink.wants c.args.out.now)) (counted (g.K.Sink.faults c.run_tool.new.out) (g.K.Sink.wants c.run_tool.new.out))
     c.code.result c.run_tool.result statuses.Line c.run_tool.ensures.rows c.code.ensures is
 
+pub returns-clause-store : goal.returns-clause-store
+returns-clause-store g c = λ is.
+    row-of (disk_seen (g.D.Disk.told c.args.disk.now) (g.D.Disk.faults c.args.disk.now) (g.D.Disk.faults c.run_tool.new.disk)) (options_in (map string_bytes c.args.words.now)) (g.S.Source.left c.args.src.now) (g.S.Source.left c.run_tool.new.src) (g.K.Sink.written c.args.out.now) (g.K.Sink.written c.run_tool.new.out)
+    (g.S.Source.faults c.args.src.now) (g.S.Source.faults c.run_tool.new.src) (counted (g.K.Sink.faults c.args.out.now) (g.K.Sink.wants c.args.out.now)) (counted (g.K.Sink.faults c.run_tool.new.out) (g.K.Sink.wants c.run_tool.new.out))
+    c.code.result c.run_tool.result statuses.Store c.run_tool.ensures.rows c.code.ensures is
+
 pub returns-clause-memory : goal.returns-clause-memory
 returns-clause-memory g c = λ is.
-    row-of (options_in (map string_bytes c.args.words.now)) (g.S.Source.left c.args.src.now) (g.S.Source.left c.run_tool.new.src) (g.K.Sink.written c.args.out.now) (g.K.Sink.written c.run_tool.new.out)
+    row-of (disk_seen (g.D.Disk.told c.args.disk.now) (g.D.Disk.faults c.args.disk.now) (g.D.Disk.faults c.run_tool.new.disk)) (options_in (map string_bytes c.args.words.now)) (g.S.Source.left c.args.src.now) (g.S.Source.left c.run_tool.new.src) (g.K.Sink.written c.args.out.now) (g.K.Sink.written c.run_tool.new.out)
     (g.S.Source.faults c.args.src.now) (g.S.Source.faults c.run_tool.new.src) (counted (g.K.Sink.faults c.args.out.now) (g.K.Sink.wants c.args.out.now)) (counted (g.K.Sink.faults c.run_tool.new.out) (g.K.Sink.wants c.run_tool.new.out))
     c.code.result c.run_tool.result statuses.NoMemory c.run_tool.ensures.rows c.code.ensures is
 
 pub returns-clause-read : goal.returns-clause-read
 returns-clause-read g c = λ is.
-    row-of (options_in (map string_bytes c.args.words.now)) (g.S.Source.left c.args.src.now) (g.S.Source.left c.run_tool.new.src) (g.K.Sink.written c.args.out.now) (g.K.Sink.written c.run_tool.new.out)
+    row-of (disk_seen (g.D.Disk.told c.args.disk.now) (g.D.Disk.faults c.args.disk.now) (g.D.Disk.faults c.run_tool.new.disk)) (options_in (map string_bytes c.args.words.now)) (g.S.Source.left c.args.src.now) (g.S.Source.left c.run_tool.new.src) (g.K.Sink.written c.args.out.now) (g.K.Sink.written c.run_tool.new.out)
     (g.S.Source.faults c.args.src.now) (g.S.Source.faults c.run_tool.new.src) (counted (g.K.Sink.faults c.args.out.now) (g.K.Sink.wants c.args.out.now)) (counted (g.K.Sink.faults c.run_tool.new.out) (g.K.Sink.wants c.run_tool.new.out))
     c.code.result c.run_tool.result statuses.Read c.run_tool.ensures.rows c.code.ensures is
 
 pub returns-clause-write : goal.returns-clause-write
 returns-clause-write g c = λ is.
-    row-of (options_in (map string_bytes c.args.words.now)) (g.S.Source.left c.args.src.now) (g.S.Source.left c.run_tool.new.src) (g.K.Sink.written c.args.out.now) (g.K.Sink.written c.run_tool.new.out)
+    row-of (disk_seen (g.D.Disk.told c.args.disk.now) (g.D.Disk.faults c.args.disk.now) (g.D.Disk.faults c.run_tool.new.disk)) (options_in (map string_bytes c.args.words.now)) (g.S.Source.left c.args.src.now) (g.S.Source.left c.run_tool.new.src) (g.K.Sink.written c.args.out.now) (g.K.Sink.written c.run_tool.new.out)
     (g.S.Source.faults c.args.src.now) (g.S.Source.faults c.run_tool.new.src) (counted (g.K.Sink.faults c.args.out.now) (g.K.Sink.wants c.args.out.now)) (counted (g.K.Sink.faults c.run_tool.new.out) (g.K.Sink.wants c.run_tool.new.out))
     c.code.result c.run_tool.result statuses.Write c.run_tool.ensures.rows c.code.ensures is
 
 pub returns-clause-complete : goal.returns-clause-complete
 returns-clause-complete g c =
-    answers (options_in (map string_bytes c.args.words.now)) (g.S.Source.left c.args.src.now) (g.S.Source.left c.run_tool.new.src) (g.K.Sink.written c.args.out.now) (g.K.Sink.written c.run_tool.new.out)
+    answers (disk_seen (g.D.Disk.told c.args.disk.now) (g.D.Disk.faults c.args.disk.now) (g.D.Disk.faults c.run_tool.new.disk)) (options_in (map string_bytes c.args.words.now)) (g.S.Source.left c.args.src.now) (g.S.Source.left c.run_tool.new.src) (g.K.Sink.written c.args.out.now) (g.K.Sink.written c.run_tool.new.out)
     (g.S.Source.faults c.args.src.now) (g.S.Source.faults c.run_tool.new.src) (counted (g.K.Sink.faults c.args.out.now) (g.K.Sink.wants c.args.out.now)) (counted (g.K.Sink.faults c.run_tool.new.out) (g.K.Sink.wants c.run_tool.new.out))
     c.code.result c.run_tool.result c.run_tool.ensures.rows c.code.ensures
 
@@ -91,3 +98,11 @@ returns-clause-sound g c = over-each (λ events. StaysSound standard_limits (sta
 
 pub returns-clause-storeless : goal.returns-clause-storeless
 returns-clause-storeless g c = over-each (λ events. NothingIsKept standard_limits (plainly events)) (λ events. nothing_is_kept standard_limits (plainly events)) (g.S.Source.left c.args.src.now) (options_in (map string_bytes c.args.words.now))
+
+pub returns-clause-opening : goal.returns-clause-opening
+returns-clause-opening g c = λ is.
+    let status = status-is c.run_tool.result statuses.Disk c.code.result c.code.ensures is in
+    let row = opening-row (disk_seen (g.D.Disk.told c.args.disk.now) (g.D.Disk.faults c.args.disk.now) (g.D.Disk.faults c.run_tool.new.disk)) (options_in (map string_bytes c.args.words.now)) (g.S.Source.left c.args.src.now) (g.S.Source.left c.run_tool.new.src) (g.K.Sink.written c.args.out.now) (g.K.Sink.written c.run_tool.new.out)
+    (g.S.Source.faults c.args.src.now) (g.S.Source.faults c.run_tool.new.src) (counted (g.K.Sink.faults c.args.out.now) (g.K.Sink.wants c.args.out.now)) (counted (g.K.Sink.faults c.run_tool.new.out) (g.K.Sink.wants c.run_tool.new.out))
+    c.run_tool.result c.run_tool.ensures.words.1 c.run_tool.ensures.rows status in
+    (row.0, c.run_tool.ensures.opening status, row.1)
