@@ -25,3 +25,4 @@ pub mod TicketCounts
 pub mod FileLemmas
 pub mod PendingLemmas
 pub mod ConservedLemmas
+pub mod CalmLemmas

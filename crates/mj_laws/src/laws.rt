@@ -2,7 +2,7 @@ ghost use Rattle.mj_base.specs.declared.limits.Limits.{Limits as AnyLimits};
 ghost use Rattle.mj_laws.specs.Cuts.{CutsChangeNothing};
 ghost use Rattle.mj_laws.specs.Kept.{CommandsGrow, IsOpenable, ListsAreLawful, StoresGoOn};
 ghost use Rattle.mj_laws.specs.NobodyWaits.{EventsSettle, MessagesSettle, NobodyWaits};
-ghost use Rattle.mj_laws.specs.Notes.{NotesAreTold};
+ghost use Rattle.mj_laws.specs.Notes.{NotesAreTold, NotesComeWithAFailure};
 ghost use Rattle.mj_laws.specs.Replies.{OneReplyOfBytes, RepliesAreOwned, RepliesAreOwnedWithout};
 ghost use Rattle.mj_laws.specs.Requests.{LeasesEndInTime, OneRequestAtATime, RequestsArePaired};
 ghost use Rattle.mj_laws.specs.Soundness.{IsBegun, StaysSound};
@@ -95,4 +95,10 @@ pub fn lists_are_lawful()
 /// those failed of which its notes say so, and a command in doubt was found only where they say so.
 pub fn notes_are_told()
     ensures { (limits : AnyLimits) (m : Machine) (e : Noted) → NotesAreTold limits m e }
+{}
+
+/// Over a store that is open, or without one: a run in which no act on the disk has failed gives no note, and its store is
+/// open at the end.
+pub fn notes_come_with_a_failure()
+    ensures { (limits : AnyLimits) (m : Machine) (events : List Noted) → NotesComeWithAFailure limits m events }
 {}

@@ -1,7 +1,8 @@
 use mj_laws::{
     commands_grow, cuts_change_nothing, lists_are_lawful, nobody_waits_for_a_queued_service,
-    notes_are_told, nothing_is_kept_without_a_store, numbers_and_lanes, one_request_at_a_time,
-    replies_reach_their_asker, stores_go_on, tickets_are_conserved, tickets_wait_for_the_store,
+    notes_are_told, notes_come_with_a_failure, nothing_is_kept_without_a_store, numbers_and_lanes,
+    one_request_at_a_time, replies_reach_their_asker, stores_go_on, tickets_are_conserved,
+    tickets_wait_for_the_store,
 };
 use mj_machine::{
     Lengths, a_run_is_its_front_and_its_rest, steps_are_the_run, the_worked_runs,
@@ -44,4 +45,5 @@ fn laws_and_worked_runs_can_be_called() {
     stores_go_on();
     lists_are_lawful();
     notes_are_told();
+    notes_come_with_a_failure();
 }

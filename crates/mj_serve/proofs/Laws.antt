@@ -5,6 +5,7 @@ use Rattle.mj_base.specs.LawfulLimits.{are_lawful, is_within}
 use Rattle.mj_base.specs.declared.limits.Limits.{Limits}
 use Rattle.mj_laws.specs.Kept.{IsOpenable}
 use Rattle.mj_laws.specs.Soundness.{IsBegun}
+use Rattle.mj_laws.proofs.CalmLemmas.{notes_come_with_a_failure}
 use Rattle.mj_laws.proofs.CommandLemmas.{commands_grow}
 use Rattle.mj_laws.proofs.ConservedLemmas.{lists_are_lawful, tickets_are_conserved}
 use Rattle.mj_laws.proofs.LeaseLemmas.{leases_end_in_time}
@@ -108,4 +109,5 @@ keeps-tickets limits seed base commands events openable = record {
   conserved = tickets_are_conserved limits seed base commands events openable;
   grow = commands_grow limits (start_with limits (opened_store seed base commands)) events;
   lawful = lists_are_lawful limits seed base commands events openable;
+  quiet = notes_come_with_a_failure limits (start_with limits (opened_store seed base commands)) events;
 }

@@ -3,6 +3,7 @@ use Rattle.std.specs.Prelude.{◌≡◌, ℕ, List, [], ◌∷◌}
 use Rattle.mj_base.specs.declared.limits.Limits.{Limits}
 use Rattle.mj_laws.specs.Kept.{CommandsGrow, ListsAreLawful}
 use Rattle.mj_laws.specs.NobodyWaits.{IsSettled, NobodyWaits}
+use Rattle.mj_laws.specs.Notes.{NotesComeWithAFailure}
 use Rattle.mj_laws.specs.Replies.{RepliesAreOwned, RepliesAreOwnedWithout}
 use Rattle.mj_laws.specs.Requests.{LeasesEndInTime, OneRequestAtATime, RequestsArePaired}
 use Rattle.mj_laws.specs.Soundness.{StaysSound}
@@ -30,12 +31,13 @@ pub record KeepsLaws (limits : Limits) (store : Store) (events : List Noted) : T
   pub settled : SettlesOver limits (start_with limits store) events
   pub sound : StaysSound limits (start_with limits store) events
 
--- with a store: each pending ticket is queued or held once, what is kept is only added to, and each list of commands
--- that a crash may leave is lawful
+-- with a store: each pending ticket is queued or held once, what is kept is only added to, each list of commands that a
+-- crash may leave is lawful, and notes come only with one that an act has failed
 pub record KeepsTickets (limits : Limits) (seed : List ℕ) (base : ℕ) (commands : List TicketCmd) (events : List Noted) : Type 0 where
   pub conserved : TicketsAreConserved limits (start_with limits (opened_store seed base commands)) events
   pub grow : CommandsGrow limits (start_with limits (opened_store seed base commands)) events
   pub lawful : ListsAreLawful limits seed base commands events
+  pub quiet : NotesComeWithAFailure limits (start_with limits (opened_store seed base commands)) events
 
 -- without a store: no ticket is kept, nobody waits inside an event either, no reply is one of a ticket service, and no
 -- event has a note
