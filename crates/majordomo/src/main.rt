@@ -1,8 +1,8 @@
-//! The program: hands its words and the standard streams to the tool, and exits with its status.
+//! The program: hands its words, the standard streams and the disk of its place to the tool, and exits with its status.
 #![tactic(auto)]
 
 use mj_base::{NoMemory, Octets, StdSink, StdSource};
-use mj_disk::MemoryDisk;
+use mj_disk::{Disk, FileDisk, MemoryDisk};
 use mj_prog::tool;
 use std::alloc::Global;
 use std::io::{ErrorKind, Read, Write};
@@ -10,10 +10,8 @@ use std::process::ExitCode;
 use std::{env, io};
 
 fn main(rt: HostRuntime) -> ExitCode {
-    let source = rt.reader();
-    let sink = io::writer(&rt);
     match program_words(&rt) {
-        Ok(words) => ExitCode::from(run_tool(rt.alloc(), &words, source, sink)),
+        Ok(words) => ExitCode::from(run(&rt, &words)),
         Err(_) => ExitCode::from(4),
     }
 }
@@ -27,16 +25,32 @@ fn program_words(rt: &HostRuntime) -> io::Result<Vec<String>> {
     }
 }
 
-fn run_tool<R: Read + Drop, W: Write + Drop>(
-    alloc: Global,
-    words: &Vec<String>,
-    reader: R,
-    writer: W,
-) -> u8 {
-    let mut source = StdSource::new(reader);
-    let mut sink = StdSink::new(writer);
+/// Runs over the file that the first word names, which isn't opened before the words are read; without one, or where it is
+/// `-`, over an empty disk in memory.
+fn run(rt: &HostRuntime, words: &Vec<String>) -> u8 {
+    match words.first() {
+        Some(place) if place.as_str() != "-" => run_over_file(rt, words, place.as_str()),
+        _ => run_over_memory(rt, words),
+    }
+}
+
+fn run_over_file(rt: &HostRuntime, words: &Vec<String>, place: &str) -> u8 {
+    match String::from_str(rt.alloc(), place) {
+        Ok(path) => run_tool(rt, words, &mut FileDisk::new(rt, path)),
+        Err(_) => 4,
+    }
+}
+
+fn run_over_memory(rt: &HostRuntime, words: &Vec<String>) -> u8 {
+    let alloc = rt.alloc();
     match MemoryDisk::new(alloc, Octets::new(alloc), 0, Vec::new(alloc), None) {
-        Ok(mut disk) => tool(alloc, words, &mut source, &mut disk, &mut sink),
+        Ok(mut disk) => run_tool(rt, words, &mut disk),
         Err(NoMemory) => 4,
     }
+}
+
+fn run_tool<D: Disk>(rt: &HostRuntime, words: &Vec<String>, disk: &mut D) -> u8 {
+    let mut source = StdSource::new(rt.reader());
+    let mut sink = StdSink::new(io::writer(rt));
+    tool(rt.alloc(), words, &mut source, disk, &mut sink)
 }

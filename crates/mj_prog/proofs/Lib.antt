@@ -12,6 +12,6 @@ pub mod Digits
 pub mod Pieces
 pub mod Spelling
 pub mod OptionLaws
-pub mod RunLaws
 pub mod ReadingStops
 pub mod Untouched
+pub mod Listings

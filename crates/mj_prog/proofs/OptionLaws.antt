@@ -5,7 +5,7 @@ use Rattle.std.proofs.lemmas.List.{get_or-map, length-map}
 use Rattle.std.specs.Str.{bytes_eq}
 use Rattle.mj_prog.specs.declared.words.Found.{Found}
 use Rattle.mj_prog.specs.declared.words.Found.TheVariants as founds
-use Rattle.mj_prog.specs.Words.{is_option, are_options, values_of, once_or}
+use Rattle.mj_prog.specs.Words.{command_in, is_option, are_options, values_of, once_or}
 use Rattle.mj_prog.specs.FoundValue.{IsFound, found_after}
 
 -- a word's bytes
@@ -93,3 +93,9 @@ pub once-twice : {A : Type 0} (default : A) (read : List ℕ → Option A) (valu
 once-twice default read [] two = absurd (omega arith)
 once-twice default read (value ∷ []) two = absurd (omega arith)
 once-twice default read (value ∷ other ∷ more) two = refl
+
+-- a place alone asks for nothing
+pub too-few-words : (words : List (List ℕ)) → length words < 2 → None ≡ command_in words
+too-few-words [] few = refl
+too-few-words (place ∷ []) few = refl
+too-few-words (place ∷ command ∷ more) few = absurd (omega arith)

@@ -4,11 +4,13 @@ pub mod SpelledLines
 pub mod Shown
 pub mod Words
 pub mod FoundValue
+pub mod Made
 pub mod ReplayTable
 pub mod ReadSoFar
 pub mod Standing
 pub mod Running
 pub mod Statuses
 pub mod StatusRows
+pub mod Listing
 pub mod SinkCounts
 pub mod Reads

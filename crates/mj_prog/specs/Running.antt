@@ -1,22 +1,27 @@
 -- How a run of the broker over a script ends.
-use Rattle.std.specs.Prelude.{ℕ, ◌≡◌, ◌^◌, ⊤, Bool, true, false, List, [], length, Option, None, Result, Ok, Err}
+use Rattle.std.specs.Prelude.{ℕ, ◌≡◌, ◌^◌, ⊤, Bool, true, false, List, [], length, Option, Result, Ok, Err}
 use Rattle.std.specs.Io.KnownBytes.{Appends, Consumes}
 use Rattle.mj_base.specs.declared.sink.WriteAnswer.{WriteAnswer}
 use Rattle.mj_base.specs.declared.sink.WriteAnswer.TheVariants as writes
 use Rattle.mj_base.specs.Rising.{Rose}
-use Rattle.mj_base.specs.Writing.{AppendsFront}
-use Rattle.mj_disk.specs.DiskModel.{History}
+use Rattle.mj_disk.specs.DiskModel.{History, Turns}
+use Rattle.mj_journal.specs.Opening.{KeepsFile}
+use Rattle.mj_machine.specs.MachineState.{Machine}
+use Rattle.mj_serve.specs.Faults.{IsUnserved}
 use Rattle.mj_serve.specs.declared.fault.ServeFault.{ServeFault}
 use Rattle.mj_serve.specs.declared.fault.ServeFault.TheVariants as faults
 use Rattle.mj_serve.specs.declared.summary.Summary.{Summary}
+use Rattle.mj_store.specs.Opening.{NoneLawful}
 use Rattle.mj_prog.specs.declared.halt.Halt.{Halt}
 use Rattle.mj_prog.specs.declared.halt.Halt.TheVariants as halts
+use Rattle.mj_prog.specs.declared.halt.StoreFault.{StoreFault}
 use Rattle.mj_prog.specs.declared.halt.StoreFault.TheVariants as stores
 use Rattle.mj_prog.specs.declared.progress.Progress.{Progress}
 use Rattle.mj_prog.specs.declared.script_ports.Stage.{Stage}
 use Rattle.mj_prog.specs.declared.script_ports.Stage.TheVariants as stages
 use Rattle.mj_prog.specs.Script.{WithText, AtUnlawful, IsLawful, script, ended_part}
-use Rattle.mj_prog.specs.ReplayTable.{IsInput, printed}
+use Rattle.mj_prog.specs.Made.{IsMadeWhole, Made, printed}
+use Rattle.mj_prog.specs.ReplayTable.{IsCutOff, IsInput}
 
 -- ---- why it ended
 
@@ -66,33 +71,61 @@ pub record IsFresh (p : Progress) : Type 0 where
 
 -- ---- where it stands then
 
-abbrev pub IsHalted : Option (List ℕ) → Option (List ℕ) → ℕ → Option (List ℕ) → Option (List ℕ) → ℕ → Halt → Type 0
-IsHalted from left lanes old new events halts.Over =
-    (text : List ℕ) × IsInput from text × IsLawful (script lanes text).ending × (events ≡ length (script lanes text).events) × Appends old new (printed lanes text)
-IsHalted from left lanes old new events (halts.Line number) =
-    (text : List ℕ) × IsInput from text × ((script lanes text).ending ≡ AtUnlawful number) × Appends old new (printed lanes text)
-IsHalted from left lanes old new events (halts.Store fault) = (text : List ℕ) × IsInput from text × AppendsFront old new (printed lanes text)
-IsHalted from left lanes old new events halts.Disk = (left ≡ from) × Appends old new []
-IsHalted from left lanes old new events halts.Read =
-    (read : List ℕ) × Consumes from left read × ((script lanes (ended_part read)).ending ≡ WithText) × Appends old new (printed lanes (ended_part read))
-IsHalted from left lanes old new events halts.Write = (text : List ℕ) × IsInput from text × AppendsFront old new (printed lanes text)
-IsHalted from left lanes old new events halts.NoMemory = (text : List ℕ) × IsInput from text × AppendsFront old new (printed lanes text)
+abbrev pub IsHalted : ℕ → Machine → Made → Option (List ℕ) → Option (List ℕ) → Option (List ℕ) → Option (List ℕ) → ℕ → Halt → Type 0
+IsHalted lanes first made from left old new events halts.Over =
+    (text : List ℕ) × IsInput from text × IsMadeWhole (script lanes text).events made × IsLawful (script lanes text).ending × (events ≡ length (script lanes text).events) × Appends old new (printed first made)
+IsHalted lanes first made from left old new events (halts.Line number) =
+    (text : List ℕ) × IsInput from text × IsMadeWhole (script lanes text).events made × ((script lanes text).ending ≡ AtUnlawful number) × Appends old new (printed first made)
+IsHalted lanes first made from left old new events (halts.Store fault) = IsCutOff lanes first made from old new
+IsHalted lanes first made from left old new events halts.Disk = Unit {0}
+IsHalted lanes first made from left old new events halts.Read =
+    (read : List ℕ) × Consumes from left read × IsMadeWhole (script lanes (ended_part read)).events made × ((script lanes (ended_part read)).ending ≡ WithText) × Appends old new (printed first made)
+IsHalted lanes first made from left old new events halts.Write = IsCutOff lanes first made from old new
+IsHalted lanes first made from left old new events halts.NoMemory = IsCutOff lanes first made from old new
 
--- what a disk told at the start, and its faults then and now
-pub record DiskSeen : Type 0 where
-  pub told : Option History
-  pub before : ℕ
-  pub now : ℕ
+-- ---- why it failed
 
-abbrev pub disk_seen : Option History → ℕ → ℕ → DiskSeen
-disk_seen told before now = record { told = told; before = before; now = now }
+-- the faults before and now: of the disk, of the source and of the sink
+pub record FaultCounts : Type 0 where
+  pub disk_before : ℕ
+  pub disk_now : ℕ
+  pub source_before : ℕ
+  pub source_now : ℕ
+  pub sink_before : ℕ
 
--- a failure raised the count of its faults; no file is refused by a disk that tells
-abbrev pub HaltCause : DiskSeen → ℕ → ℕ → ℕ → ℕ → Halt → Type 0
-HaltCause disk reads_before reads_now writes_before writes_now halts.Over = ⊤
-HaltCause disk reads_before reads_now writes_before writes_now (halts.Line number) = ⊤
-HaltCause disk reads_before reads_now writes_before writes_now (halts.Store fault) = disk.told ≡ None
-HaltCause disk reads_before reads_now writes_before writes_now halts.Disk = Rose disk.before disk.now
-HaltCause disk reads_before reads_now writes_before writes_now halts.Read = Rose reads_before reads_now
-HaltCause disk reads_before reads_now writes_before writes_now halts.Write = Rose writes_before writes_now
-HaltCause disk reads_before reads_now writes_before writes_now halts.NoMemory = ⊤
+abbrev pub fault_counts : ℕ → ℕ → ℕ → ℕ → ℕ → FaultCounts
+fault_counts disk_before disk_now source_before source_now sink_before =
+    record { disk_before = disk_before; disk_now = disk_now; source_before = source_before; source_now = source_now; sink_before = sink_before }
+
+-- a failure raised the count of its faults
+abbrev pub HaltCause : FaultCounts → ℕ → Halt → Type 0
+HaltCause counts sink_now halts.Over = ⊤
+HaltCause counts sink_now (halts.Line number) = ⊤
+HaltCause counts sink_now (halts.Store fault) = ⊤
+HaltCause counts sink_now halts.Disk = Rose counts.disk_before counts.disk_now
+HaltCause counts sink_now halts.Read = Rose counts.source_before counts.source_now
+HaltCause counts sink_now halts.Write = Rose counts.sink_before sink_now
+HaltCause counts sink_now halts.NoMemory = ⊤
+
+-- ---- a file that is refused
+
+abbrev pub served_fault : StoreFault → ServeFault
+served_fault stores.NotAStore = faults.NotAStore
+served_fault (stores.Version version) = faults.Version version
+served_fault (stores.Damaged at) = faults.Damaged at
+
+-- for what stands in it, of a disk that tells; and then it is as it was
+pub record IsFileRefused (fault : StoreFault) (before after : Option History) : Type 0 where
+  pub why : IsUnserved (served_fault fault) before after
+  pub unlawful : NoneLawful before
+  pub kept : Turns KeepsFile before after
+
+-- no event was taken
+abbrev pub IsUntaken : Halt → Type 0
+IsUntaken halts.Over = ⊥
+IsUntaken (halts.Line number) = ⊥
+IsUntaken (halts.Store fault) = ⊤
+IsUntaken halts.Disk = ⊤
+IsUntaken halts.Read = ⊥
+IsUntaken halts.Write = ⊥
+IsUntaken halts.NoMemory = ⊤

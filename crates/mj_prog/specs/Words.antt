@@ -1,12 +1,17 @@
 -- The words of the program, which are those behind its name.
-use Rattle.std.specs.Prelude.{ℕ, ◌&&◌, ◌||◌, Bool, true, false, nat_le, List, [], ◌∷◌, Option, Some, None, if◌then◌else◌, codes, replicate}
+use Rattle.std.specs.Prelude.{ℕ, ◌&&◌, ◌||◌, Bool, true, false, not, nat_eq, nat_le, nat_lt, length, List, [], ◌∷◌, Option, Some, None, if◌then◌else◌, codes, replicate}
+use Rattle.std.specs.List.{starts_with}
 use Rattle.std.specs.Str.{bytes_eq}
 use Rattle.hex.specs.Hex.{decode_sized}
+use Rattle.mj_prog.specs.declared.words.Command.{Command}
+use Rattle.mj_prog.specs.declared.words.Command.TheVariants as commands
 use Rattle.mj_prog.specs.declared.words.Options.{Options}
 use Rattle.mj_prog.specs.Numbers.{number_of}
 use Rattle.mj_prog.specs.Script.{decoded}
 
--- the options of a replay
+-- ---- options
+
+-- those of a replay
 abbrev pub is_option : List ℕ → Bool
 is_option name = bytes_eq name (codes "--lanes") || bytes_eq name (codes "--seed")
 
@@ -40,20 +45,77 @@ lanes_of text = lane_count (number_of text)
 abbrev pub seed_of : List ℕ → Option (List ℕ)
 seed_of text = decoded (decode_sized text 32)
 
-abbrev pub options_with : Option ℕ → Option (List ℕ) → Option Options
-options_with None seed = None
-options_with (Some lanes) None = None
-options_with (Some lanes) (Some seed) = Some (record { lanes = lanes; seed = seed })
+-- with a store, or without one
+abbrev pub options_with : Bool → Option ℕ → Option (List ℕ) → Option Options
+options_with stored None seed = None
+options_with stored (Some lanes) None = None
+options_with stored (Some lanes) (Some seed) = Some (record { stored = stored; lanes = lanes; seed = seed })
 
 -- `--lanes N` and `--seed H`: where they aren't given, 64 lanes and a seed of zeros
-abbrev pub options_of : List (List ℕ) → Option Options
-options_of words =
+abbrev pub options_of : Bool → List (List ℕ) → Option Options
+options_of stored words =
     if are_options words
-    then options_with (once_or 64 lanes_of (values_of (codes "--lanes") words)) (once_or (replicate 32 0) seed_of (values_of (codes "--seed") words))
+    then options_with stored (once_or 64 lanes_of (values_of (codes "--lanes") words)) (once_or (replicate 32 0) seed_of (values_of (codes "--seed") words))
     else None
 
--- `- replay`, and its options behind it
+-- ---- the place, and what is asked for
+
+-- a file's name isn't empty, isn't `-`, and doesn't begin with `--`
+abbrev pub is_file : List ℕ → Bool
+is_file name = nat_lt 0 (length name) && (not (bytes_eq name (codes "-")) && not (starts_with nat_eq name (codes "--")))
+
+-- `-` is no store
+abbrev pub is_place : List ℕ → Bool
+is_place place = bytes_eq place (codes "-") || is_file place
+
+abbrev pub replay_with : Option Options → Option Command
+replay_with None = None
+replay_with (Some options) = Some (commands.Replay options)
+
+abbrev pub replay_in : List ℕ → List (List ℕ) → Option Command
+replay_in place options = if is_place place then replay_with (options_of (is_file place) options) else None
+
+abbrev pub tickets_in : List ℕ → List (List ℕ) → Option Command
+tickets_in file [] = if is_file file then Some commands.Tickets else None
+tickets_in file (word ∷ more) = None
+
+-- a place, `replay`, and its options; or a file and `tickets`
+abbrev pub command_at : List ℕ → List ℕ → List (List ℕ) → Option Command
+command_at place command more =
+    if bytes_eq command (codes "replay") then replay_in place more
+    else if bytes_eq command (codes "tickets") then tickets_in place more
+    else None
+
+abbrev pub command_in : List (List ℕ) → Option Command
+command_in [] = None
+command_in (place ∷ []) = None
+command_in (place ∷ command ∷ more) = command_at place command more
+
+-- ---- by the command
+
+abbrev pub options_for : Option Command → Option Options
+options_for None = None
+options_for (Some (commands.Replay options)) = Some options
+options_for (Some commands.Tickets) = None
+
+-- the options, where the words ask for a replay
 abbrev pub options_in : List (List ℕ) → Option Options
-options_in [] = None
-options_in (place ∷ []) = None
-options_in (place ∷ command ∷ options) = if bytes_eq place (codes "-") && bytes_eq command (codes "replay") then options_of options else None
+options_in words = options_for (command_in words)
+
+abbrev pub is_listing : Option Command → Bool
+is_listing None = false
+is_listing (Some (commands.Replay options)) = false
+is_listing (Some commands.Tickets) = true
+
+-- the words ask for the tickets of a file
+abbrev pub asks_for_tickets : List (List ℕ) → Bool
+asks_for_tickets words = is_listing (command_in words)
+
+abbrev pub is_over_file : Option Command → Bool
+is_over_file None = false
+is_over_file (Some (commands.Replay options)) = options.stored
+is_over_file (Some commands.Tickets) = true
+
+-- what they ask for is done over a file
+abbrev pub has_file : List (List ℕ) → Bool
+has_file words = is_over_file (command_in words)

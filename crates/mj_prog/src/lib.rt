@@ -6,6 +6,7 @@ mod finish;
 mod front;
 mod halt;
 mod line;
+mod listing;
 mod meaning;
 mod next;
 mod number;

@@ -1,6 +1,6 @@
 ghost use Rattle.std.specs.Prelude.{◌≡◌, ◌≤◌, [], IfSome, map, string_bytes, codes, replicate};
 ghost use Rattle.mj_prog.specs.Words;
-ghost use Rattle.mj_prog.specs.Words.{options_in, options_of, values_of, once_or, lanes_of, seed_of};
+ghost use Rattle.mj_prog.specs.Words.{command_at, command_in, options_for, options_of, replay_in, tickets_in, values_of, once_or, lanes_of, seed_of};
 ghost use Rattle.mj_prog.specs.FoundValue.{IsFound, found_after};
 
 use super::number::read_number;
@@ -9,10 +9,21 @@ use hex::FromHex;
 /// The options of a replay.
 #[derive(Clone, Copy)]
 pub struct Options {
+    /// Whether tickets are kept, in the file that the disk is.
+    pub stored: bool,
     /// Lanes that a script may name, 1 to 64.
     pub lanes: u32,
     /// What ticket ids are made from. Nothing uses it without a store.
     pub seed: [u8; 32],
+}
+
+/// What the words ask for.
+#[derive(Clone, Copy)]
+pub enum Command {
+    /// A script's events are run through the broker.
+    Replay(Options),
+    /// The open tickets of a file are listed.
+    Tickets,
 }
 
 /// What the search for the value of an option gives.
@@ -26,29 +37,75 @@ enum Found {
     Twice,
 }
 
-/// The options of a replay; None where the words aren't of this program. The words are those behind the
+/// What the words ask for; None where they aren't of this program. The words are those behind the
 /// program's name.
-pub fn read_words(words: &[String]) -> Option<Options>
-    ensures exact { result ≡ options_in (map string_bytes words.now) }
-    ensures few { IfSome result (λ options. options.lanes ≤ 64) }
+pub fn read_words(words: &[String]) -> Option<Command>
+    ensures exact { result ≡ command_in (map string_bytes words.now) }
+    ensures few { IfSome (options_for result) (λ options. options.lanes ≤ 64) }
 {
     match words {
-        [place, command, options @ ..] if place.as_str() == "-" && command.as_str() == "replay" => {
-            read_options(options)
-        }
+        [place, command, more @ ..] => read_command(place.as_str(), command.as_str(), more),
         _ => None,
     }
 }
 
-fn read_options(words: &[String]) -> Option<Options>
-    ensures exact { result ≡ options_of (map string_bytes words.now) }
+fn read_command(place: &str, command: &str, more: &[String]) -> Option<Command>
+    ensures exact { result ≡ command_at place.now command.now (map string_bytes more.now) }
+    ensures few { IfSome (options_for result) (λ options. options.lanes ≤ 64) }
+{
+    if command == "replay" {
+        read_replay(place, more)
+    } else if command == "tickets" {
+        read_tickets(place, more)
+    } else {
+        None
+    }
+}
+
+fn read_tickets(file: &str, more: &[String]) -> Option<Command>
+    ensures exact { result ≡ tickets_in file.now (map string_bytes more.now) }
+    ensures few { IfSome (options_for result) (λ options. options.lanes ≤ 64) }
+{
+    match more {
+        [] if is_file(file) => Some(Command::Tickets),
+        _ => None,
+    }
+}
+
+fn read_replay(place: &str, words: &[String]) -> Option<Command>
+    ensures exact { result ≡ replay_in place.now (map string_bytes words.now) }
+    ensures few { IfSome (options_for result) (λ options. options.lanes ≤ 64) }
+{
+    let stored = is_file(place);
+    if !stored && place != "-" {
+        return None;
+    }
+    match read_options(stored, words) {
+        Some(options) => Some(Command::Replay(options)),
+        None => None,
+    }
+}
+
+/// Whether it may name a file. `-` names none, and what begins with `--` is an option.
+fn is_file(name: &str) -> bool
+    ensures { result ≡ Words.is_file name.now }
+{
+    !name.is_empty() && name != "-" && !name.starts_with("--")
+}
+
+fn read_options(stored: bool, words: &[String]) -> Option<Options>
+    ensures exact { result ≡ options_of stored (map string_bytes words.now) }
     ensures few { IfSome result (λ options. options.lanes ≤ 64) }
 {
     if !are_options(words) {
         return None;
     }
     match (read_lanes(words), read_seed(words)) {
-        (Some(lanes), Some(seed)) => Some(Options { lanes, seed }),
+        (Some(lanes), Some(seed)) => Some(Options {
+            stored,
+            lanes,
+            seed,
+        }),
         _ => None,
     }
 }

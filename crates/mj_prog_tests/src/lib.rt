@@ -6,6 +6,8 @@ mod routed_runs;
 #[cfg(test)]
 mod runs;
 #[cfg(test)]
+mod stored_runs;
+#[cfg(test)]
 mod tests;
 #[cfg(test)]
 mod worked_runs;

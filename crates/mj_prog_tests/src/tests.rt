@@ -28,7 +28,7 @@ pub(crate) fn printed(
     Ok((sink.written().to_vec(alloc)?, status))
 }
 
-fn owned(alloc: Global, words: &[&str]) -> Result<Vec<String>, AllocError> {
+pub(crate) fn owned(alloc: Global, words: &[&str]) -> Result<Vec<String>, AllocError> {
     let mut all = Vec::new(alloc);
     for word in words {
         all.push(String::from_str(alloc, word)?)?;

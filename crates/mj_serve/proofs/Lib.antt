@@ -7,3 +7,4 @@ mod Alone
 mod Beginning
 mod Ending
 mod Refusing
+pub mod Lawful

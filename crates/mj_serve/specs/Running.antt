@@ -34,3 +34,7 @@ pub record RanOut {P D : Type 0} (stand : P → P → List Event → List Entry 
 abbrev pub Gives : {P : Type 0} → (P → P → List Event → List Entry → Type 0) → P → P → ℕ → List Out → Type 0
 Gives {P} stand old new moment outs =
     (origin : P) (taken : List Event) (given : List Entry) → stand origin old taken given → stand origin new taken (given ++ map (entry_at moment) outs)
+
+-- these ports stand for some events and entries since others, whatever the disk tells
+abbrev pub Stood : {P : Type 0} → (P → P → List Event → List Entry → Type 0) → P → P → Type 0
+Stood stand origin ports = (taken : List Event) × (given : List Entry) × stand origin ports taken given

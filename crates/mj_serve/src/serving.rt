@@ -1,4 +1,4 @@
-ghost use Rattle.std.specs.Prelude.{◌≡◌, ◌<◌, ◌≤◌, ◌^◌, ℕ, List, [], true, false, None, IfOk, IfErr, OnOk, OnErr, IsErrOf};
+ghost use Rattle.std.specs.Prelude.{◌≡◌, ◌<◌, ◌≤◌, ◌^◌, ℕ, List, [], true, false, None, IfOk, IfErr, IsErr, OnOk, OnErr, IsErrOf};
 ghost use Rattle.mj_base.specs.LawfulLimits.{are_lawful};
 ghost use Rattle.mj_base.specs.Rising.{Rose};
 ghost use Rattle.mj_base.specs.declared.limits.Limits.{Limits as AnyLimits};
@@ -14,7 +14,7 @@ ghost use Rattle.mj_store.specs.Standing.{IsTelling};
 ghost use Rattle.mj_tickets.specs.declared.command.TicketCmd.{TicketCmd as AnyCmd};
 ghost use Rattle.mj_serve.specs.Counts.{no_counts};
 ghost use Rattle.mj_serve.specs.Faults.{IsFileFault, IsUnserved};
-ghost use Rattle.mj_serve.specs.Running.{Ran, RanOut};
+ghost use Rattle.mj_serve.specs.Running.{Ran, RanOut, Stood};
 ghost use Rattle.mj_serve.specs.Serving.{EndedOver, EndedWithout, IsLeftAlone, ServedOver, ServedWithout};
 
 use crate::fault::ServeFault;
@@ -47,6 +47,9 @@ pub fn serve<P: Ports, D: Disk>(
     ensures served_without { IfOk result (λ summary. stored ≡ false → P.stand ports.old ports.old [] [] → ServedWithout P.stand D.Disk ports.old disk.old limits.now ports.new disk.new summary) }
     ensures stopped { OnOk result (P.stopped ports.new ≡ true) }
 
+    // Whatever the disk tells, the ports stand for some events and entries.
+    ensures stood { P.stand ports.old ports.old [] [] → Stood P.stand ports.old ports.new }
+
     // So it is up to where a run ended early.
     ensures ended { OnErr result (stored ≡ true → P.stand ports.old ports.old [] [] → (base : ℕ) (commands : List AnyCmd) → OpensLawfully base commands (D.told disk.old) → EndedOver P.stand D.Disk ports.old disk.old limits.now seed base commands ports.new disk.new) }
     ensures ended_without { OnErr result (stored ≡ false → P.stand ports.old ports.old [] [] → EndedWithout P.stand D.Disk ports.old disk.old limits.now ports.new disk.new) }
@@ -61,6 +64,9 @@ pub fn serve<P: Ports, D: Disk>(
     ensures unopened { IfErr result (λ fault. IsTelling D.Disk disk.old → IsUnserved fault (D.told disk.old) (D.told disk.new)) }
     ensures refused { IfErr result (λ fault. IsFileFault fault → IsTelling D.Disk disk.old → (stored ≡ true) × (ports.new ≡ ports.old) × Turns KeepsFile (D.told disk.old) (D.told disk.new)) }
     ensures lawful { IfErr result (λ fault. IsFileFault fault → NoneLawful (D.told disk.old)) }
+
+    // No event is taken over a file that opens as no lawful list.
+    ensures unlawful { stored ≡ true → IsTelling D.Disk disk.old → NoneLawful (D.told disk.old) → IsErr result × (ports.new ≡ ports.old) }
 {
     if stored {
         serve_over(alloc, limits, seed, ports, disk)
@@ -83,11 +89,13 @@ fn serve_over<P: Ports, D: Disk>(
     requires few { P.left ports.old < 2 ^ 60 }
     ensures served { IfOk result (λ summary. P.stand ports.old ports.old [] [] → (base : ℕ) (commands : List AnyCmd) → OpensLawfully base commands (D.told disk.old) → ServedOver P.stand D.Disk ports.old disk.old limits.now seed base commands ports.new disk.new summary) }
     ensures stopped { OnOk result (P.stopped ports.new ≡ true) }
+    ensures stood { P.stand ports.old ports.old [] [] → Stood P.stand ports.old ports.new }
     ensures ended { OnErr result (P.stand ports.old ports.old [] [] → (base : ℕ) (commands : List AnyCmd) → OpensLawfully base commands (D.told disk.old) → EndedOver P.stand D.Disk ports.old disk.old limits.now seed base commands ports.new disk.new) }
     ensures cause { IsErrOf result ServeFault.DiskFault → Rose (D.faults disk.old) (D.faults disk.new) × (ports.new ≡ ports.old) }
     ensures unopened { IfErr result (λ fault. IsTelling D.Disk disk.old → IsUnserved fault (D.told disk.old) (D.told disk.new)) }
     ensures refused { IfErr result (λ fault. IsFileFault fault → IsTelling D.Disk disk.old → (ports.new ≡ ports.old) × Turns KeepsFile (D.told disk.old) (D.told disk.new)) }
     ensures lawful { IfErr result (λ fault. IsFileFault fault → NoneLawful (D.told disk.old)) }
+    ensures unlawful { IsTelling D.Disk disk.old → NoneLawful (D.told disk.old) → IsErr result × (ports.new ≡ ports.old) }
 {
     match open(alloc, limits, seed, disk) {
         Ok(mut broker) => run(alloc, &mut broker, ports, disk),
@@ -108,6 +116,7 @@ fn serve_without<P: Ports, D: Disk>(
     requires few { P.left ports.old < 2 ^ 60 }
     ensures served { IfOk result (λ summary. P.stand ports.old ports.old [] [] → ServedWithout P.stand D.Disk ports.old disk.old limits.now ports.new disk.new summary) }
     ensures stopped { OnOk result (P.stopped ports.new ≡ true) }
+    ensures stood { P.stand ports.old ports.old [] [] → Stood P.stand ports.old ports.new }
     ensures ended { OnErr result (P.stand ports.old ports.old [] [] → EndedWithout P.stand D.Disk ports.old disk.old limits.now ports.new disk.new) }
     ensures plain { IsLeftAlone (D.time disk.old) (D.told disk.old) (D.told disk.new) }
     ensures cause { IsErrOf result ServeFault.DiskFault → Rose (D.faults disk.old) (D.faults disk.new) × (ports.new ≡ ports.old) }
@@ -132,6 +141,7 @@ fn open<D: Disk>(
     ensures limits { IfOk result (λ broker. limits_of broker ≡ limits.now) }
     ensures fresh { IfOk result (λ broker. broker.spent ≡ false) }
     ensures first { IfOk result (λ broker. broker.state.next ≡ 1) }
+    ensures opened { OnOk result (IsTelling D.Disk disk.old → (base : ℕ) × (commands : List AnyCmd) × OpensLawfully base commands (D.told disk.old)) }
     ensures crash { LeavesBegun D.Disk disk.old disk.new }
     ensures kept { Turns KeepsFile (D.told disk.old) (D.told disk.new) }
     ensures unopened { IfErr result (λ fault. IsUnserved fault (D.told disk.old) (D.told disk.new)) }
@@ -193,6 +203,7 @@ fn run<P: Ports, D: Disk>(
     requires sound { IsSound D.Disk broker.old.keeper disk.old }
     ensures ran { IfOk result (λ summary. (origin : P) (began : D) (limits : AnyLimits) (first : Machine) → Ran P.stand D.Disk origin began limits first ports.old disk.old broker.old no_counts → Ran P.stand D.Disk origin began limits first ports.new disk.new broker.new summary) }
     ensures ran_out { OnErr result ((origin : P) (began : D) (limits : AnyLimits) (first : Machine) → Ran P.stand D.Disk origin began limits first ports.old disk.old broker.old no_counts → RanOut P.stand D.Disk origin began limits first ports.new disk.new) }
+    ensures stood { (origin : P) → Stood P.stand origin ports.old → Stood P.stand origin ports.new }
     ensures refused { IfErr result (λ fault. IsFileFault fault → D.told disk.old ≡ None) }
     ensures kind { ¬ IsErrOf result ServeFault.DiskFault }
     ensures plain { broker.old.keeper.shelf ≡ Absent → D.told disk.new ≡ D.told disk.old }

@@ -7,7 +7,7 @@ ghost use Rattle.mj_machine.specs.MachineState.{Machine};
 ghost use Rattle.mj_serve.specs.Counts.{pieces_in};
 ghost use Rattle.mj_serve.specs.Faults.{IsFileFault, served_as};
 ghost use Rattle.mj_serve.specs.Given.{is_stop};
-ghost use Rattle.mj_serve.specs.Running.{Gives, Ran, RanOut};
+ghost use Rattle.mj_serve.specs.Running.{Gives, Ran, RanOut, Stood};
 
 use crate::fault::ServeFault;
 use crate::ports::Ports;
@@ -33,6 +33,7 @@ pub fn turn<P: Ports, D: Disk>(
     requires sound { IsSound D.Disk broker.old.keeper disk.old }
     ensures ran { OnOk result ((origin : P) (began : D) (limits : AnyLimits) (first : Machine) → Ran P.stand D.Disk origin began limits first ports.old disk.old broker.old summary.old → Ran P.stand D.Disk origin began limits first ports.new disk.new broker.new summary.new) }
     ensures ran_out { OnErr result ((origin : P) (began : D) (limits : AnyLimits) (first : Machine) → Ran P.stand D.Disk origin began limits first ports.old disk.old broker.old summary.old → RanOut P.stand D.Disk origin began limits first ports.new disk.new) }
+    ensures stood { (origin : P) → Stood P.stand origin ports.old → Stood P.stand origin ports.new }
     ensures refused { IfErr result (λ fault. IsFileFault fault → D.told disk.old ≡ None) }
     ensures kind { ¬ IsErrOf result ServeFault.DiskFault }
     ensures silent { OnOk result (D.told disk.new ≡ None → D.told disk.old ≡ None) }

@@ -2,6 +2,7 @@ use Rattle.std.proofs.Common.{sym, subst}
 use Rattle.mj_serve.specs.Faults.{IsFileFault, IsUnserved}
 use Rattle.mj_serve.specs.declared.fault.ServeFault.{ServeFault}
 use Rattle.mj_serve.proofs.Beginning.{begun-over, sound-over, told-still}
+use Rattle.mj_serve.proofs.Lawful.{opened-lawfully}
 use Rattle.mj_serve.proofs.Refusing.{refusal-of, unserved-of}
 use Rattle.mj_serve.proofs.serving.open.Goals as goal
 
@@ -23,3 +24,6 @@ returns-in-Err-clause-unopened g c =
 pub returns-in-Err-clause-lawful : goal.returns-in-Err-clause-lawful
 returns-in-Err-clause-lawful g c = λ is.
     c.in-Err.ensures.lawful (refusal-of c.in-Err.fault (subst (λ (fault : ServeFault). IsFileFault fault) c.fault_of.ensures is))
+
+pub returns-in-Ok-new-clause-opened : goal.returns-in-Ok-new-clause-opened
+returns-in-Ok-new-clause-opened g c = opened-lawfully g.D.Disk c.args.disk.now c.open.new.disk c.in-Ok.store c.in-Ok.ensures.held c.in-Ok.ensures.made
