@@ -78,12 +78,6 @@ acts-at acts i a inside is =
 pub taken-more : (acts : List Act) (i : ℕ) (a : Act) → i < length acts → a ≡ get_or acts i a → take (i + 1) acts ≡ take i acts ++ a ∷ []
 taken-more acts i a inside is = take_more acts i a inside ∙ ap (λ (x : Act). take i acts ++ x ∷ []) (sym is)
 
-pub nothing-behind : (body : List (List ℕ)) (i : ℕ) → drop i body ≡ [] → drop (i + 1) body ≡ drop i body
-nothing-behind body i e =
-    let gone : length (drop i body) ≡ 0 = ap length e in
-    let long : length body ≤ i + 1 = (let l = length-drop i body in omega (arith, l, gone)) in
-    drop_of_length-le body long ∙ sym e
-
 -- ---- counts
 
 pub later-more : (a b c : Counts) → AreLater a b → AreLater b c → AreLater a c

@@ -15,13 +15,13 @@ use Rattle.mj_peering.specs.declared.stop.Stop.TheVariants as stops
 use Rattle.mj_peering.proofs.PlaceLemmas.{moves-more, moves-none}
 
 -- a round: what was read, and then its acts
-round-done : (old mid now : Places) (round : Round) → Moves old mid round.read [] → Performs mid now round.acts → AreDone old now (round ∷ [])
+pub round-done : (old mid now : Places) (round : Round) → Moves old mid round.read [] → Performs mid now round.acts → AreDone old now (round ∷ [])
 round-done old mid now round r p =
     let both = moves-more old mid now round.read (entries round.acts) [] (lines round.acts) r p in
     subst (λ (l : List ℕ). Moves old now (tale (round ∷ [])) l) (sym (append-nil (lines round.acts)))
     (subst (λ (l : List LinkEntry). Moves old now l (lines round.acts)) (sym (append-nil (round.read ++ entries round.acts))) both)
 
-round-cut : (old mid now : Places) (round : Round) → Moves old mid round.read [] → Breaks mid now round.acts → ArePartly old now [] round
+pub round-cut : (old mid now : Places) (round : Round) → Moves old mid round.read [] → Breaks mid now round.acts → ArePartly old now [] round
 round-cut old mid now round r b = record {
   done = b.done;
   rest = b.rest;
