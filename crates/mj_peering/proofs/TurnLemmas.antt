@@ -1,14 +1,13 @@
 -- A call of a client's end, whole or in part.
-use Rattle.std.proofs.Common.{◌≡◌, ℕ, List, [], ◌∷◌, ◌++◌, take, refl, sym, ap, subst, ◌∙◌, append_assoc, append-nil, inl, inr, Result, Ok, Err, OnErr, IfErr}
-use Rattle.mj_base.specs.Linking.{Tells}
+use Rattle.std.proofs.Common.{◌≡◌, ℕ, List, [], ◌∷◌, ◌++◌, take, refl, sym, subst, append-nil, inl, inr, Result, Ok, Err, OnErr, IfErr}
 use Rattle.mj_base.specs.declared.link.LinkEntry.{LinkEntry}
 use Rattle.mj_base.specs.declared.link.LinkEvent.{LinkEvent}
-use Rattle.mj_peer.specs.ClientEndRules.{Asked, Call, Client, Met, Turn, turn_of}
-use Rattle.mj_peer.specs.ClientStands.{Does, Follows, Stands}
+use Rattle.mj_peer.specs.ClientEndRules.{Call, Met, turn_of}
+use Rattle.mj_peer.specs.ClientStands.{Follows}
 use Rattle.mj_peer.specs.declared.act.Act.{Act}
 use Rattle.mj_peer.specs.declared.session.Session.{Session}
 use Rattle.mj_peering.specs.ClientRun.{BrokeOff, IsCut, Turned, read_of, round_of}
-use Rattle.mj_peering.specs.Performing.{AreDone, ArePartly, Breaks, Counts, Moves, PerformCause, Performs, Places, Round, entries, entry_of, lines, printed, tale}
+use Rattle.mj_peering.specs.Performing.{AreDone, ArePartly, Breaks, Counts, Moves, PerformCause, Performs, Places, Round, entries, entry_of, lines, tale}
 use Rattle.mj_peering.specs.Requests.{ReadCause}
 use Rattle.mj_peering.specs.declared.stop.Stop.{Stop}
 use Rattle.mj_peering.specs.declared.stop.Stop.TheVariants as stops

@@ -1,20 +1,19 @@
 -- A run of a worker, call by call.
-use Rattle.std.proofs.Common.{◌≡◌, ◌⊎◌, ◌<◌, ◌≤◌, ◌+◌, ℕ, drop, get_or, length, true, false, Bool, List, [], ◌∷◌, ◌++◌, map, take, refl, sym, ap, subst, ◌∙◌, append_assoc, append-nil, inl, inr, Option, None, Some, Result, Ok, Err, OnErr, IfErr, IfOk}
+use Rattle.std.proofs.Common.{◌≡◌, ◌<◌, ◌≤◌, ◌+◌, ℕ, drop, get_or, length, true, false, Bool, List, [], ◌∷◌, ◌++◌, map, refl, sym, ap, subst, ◌∙◌, append_assoc, append-nil, inl, inr, Option, None, Some, Result, Ok, Err, OnErr, IfErr, IfOk}
 use Rattle.std.proofs.lemmas.List.{drop_more, map-append}
 use Rattle.std.proofs.Math.ListN.{drop_of_length-le}
-use Rattle.mj_base.specs.declared.link.LinkEntry.{LinkEntry}
 use Rattle.mj_base.specs.declared.link.LinkEvent.{LinkEvent}
-use Rattle.mj_peer.specs.WorkerEndRules.{Call, Met, Started, Turn, Worker, acts_of, after, greets, starts, turn_of}
-use Rattle.mj_peer.specs.WorkerStands.{Does, Follows, Stands}
+use Rattle.mj_peer.specs.WorkerEndRules.{Call, Met, Started, Worker, acts_of, after, starts, turn_of}
+use Rattle.mj_peer.specs.WorkerStands.{Follows, Stands}
 use Rattle.mj_peer.specs.declared.act.Act.{Act}
 use Rattle.mj_peer.specs.declared.post.Post.{Post}
-use Rattle.mj_peering.specs.Performing.{AreDone, ArePartly, Breaks, Counts, Moves, PerformCause, Performs, Places, Round, entry_of, lines}
+use Rattle.mj_peering.specs.Performing.{AreDone, Breaks, Counts, Moves, PerformCause, Performs, Places, Round, entry_of}
 use Rattle.mj_peering.specs.Requests.{ReadCause}
 use Rattle.mj_peering.specs.WorkerRun.{AreInTurn, AreMet, BrokeOff, Halted, IsCut, IsCutBy, IsPart, Left, Turned, Worked, calls_of, first_of, leaving_by, leaving_in, read_of, round_of, rounds}
 use Rattle.mj_peering.specs.declared.leaving.Leaving.{Leaving}
 use Rattle.mj_peering.specs.declared.stop.Stop.{Stop}
 use Rattle.mj_peering.specs.declared.stop.Stop.TheVariants as stops
-use Rattle.mj_peering.proofs.PlaceLemmas.{moves-more, moves-none}
+use Rattle.mj_peering.proofs.PlaceLemmas.{moves-none}
 use Rattle.mj_peering.proofs.RunLemmas.{done-more, partly-more}
 use Rattle.mj_peering.proofs.TurnLemmas.{round-cut, round-done}
 

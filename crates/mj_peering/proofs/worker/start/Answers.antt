@@ -1,10 +1,5 @@
-use Rattle.std.proofs.Common.{◌≡◌, Result, Ok, Err, IfErr, OnErr, sym, subst}
 use Rattle.std.proofs.lemmas.Result.{err_from_is_err_and}
-use Rattle.mj_peer.specs.WorkerEndRules.{Worker}
-use Rattle.mj_peer.specs.WorkerStands.{Stands}
-use Rattle.mj_peering.specs.Performing.{Breaks, Counts, PerformCause, Places, places}
-use Rattle.mj_peering.specs.WorkerRun.{Halted}
-use Rattle.mj_peering.specs.declared.stop.Stop.{Stop}
+use Rattle.mj_peering.specs.Performing.{places}
 use Rattle.mj_peering.proofs.WorkerLemmas.{halted-performing, halted-unstarted}
 use Rattle.mj_peering.proofs.worker.start.Goals as goal
 

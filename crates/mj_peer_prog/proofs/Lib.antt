@@ -1,0 +1,5 @@
+mod SinkLemmas
+mod RunRows
+mod StatusLaws
+mod FinishLemmas
+mod WordLemmas
