@@ -1,4 +1,5 @@
 mod SinkLemmas
+mod OverLemmas
 mod RunRows
 mod StatusLaws
 mod FinishLemmas

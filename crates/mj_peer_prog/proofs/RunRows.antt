@@ -17,7 +17,7 @@ use Rattle.mj_peering.specs.declared.feed.Feed.{Feed}
 use Rattle.mj_peering.specs.declared.leaving.Leaving.{Leaving}
 use Rattle.mj_peering.specs.declared.stop.Stop.{Stop}
 use Rattle.mj_peering.specs.declared.stop.Stop.TheVariants as stops
-use Rattle.mj_peer_prog.specs.PeerRuns.{AreAll, AreFirst, ClientEnds, client_of, ending_by, ending_of, requests_in, worker_of}
+use Rattle.mj_peer_prog.specs.PeerRuns.{AreAll, AreFirst, ClientEnds, client_of, ending_by, ending_of, gives_up, requests_in, worker_of}
 use Rattle.mj_peer_prog.specs.PeerTable.{Scene, IsBroken, scene}
 use Rattle.mj_peer_prog.specs.StatusRows.{Begins, CameTo, IsHalted, IsWhole}
 use Rattle.mj_peer_prog.specs.declared.ending.Ending.{Ending}
@@ -25,6 +25,7 @@ use Rattle.mj_peer_prog.specs.declared.task.Asking.{Asking}
 use Rattle.mj_peer_prog.specs.declared.task.Serving.{Serving}
 use Rattle.mj_peer_prog.specs.declared.task.Task.{Task}
 use Rattle.mj_peer_prog.specs.declared.task.Task.TheVariants as tasks
+use Rattle.mj_peer_prog.proofs.OverLemmas.{over-says}
 use Rattle.mj_peer_prog.proofs.SinkLemmas.{moves-none}
 
 -- ---- the input
@@ -51,12 +52,16 @@ over-of first calls e b s o = ap (λ (t : Talk). t.over) (sym s.talk) ∙ o
 open-of : (first : client.Client) (calls : List client.Call) (e : Session) (b : Bool) → client_stands.Stands e (client.after calls first) → is_some e.talk.request ≡ b → is_some (client.after calls first).talk.request ≡ b
 open-of first calls e b s o = ap (λ (t : Talk). is_some t.request) (sym s.talk) ∙ o
 
+-- whether `NoAnswer` was given is what the end says of itself
+gave-up : (a : Asking) (calls : List client.Call) (e : Session) (b : Bool) → client_stands.Stands e (client.after calls (client_of a)) → e.talk.over ≡ b → gives_up (client.acts_of calls (client_of a)) ≡ b
+gave-up a calls e b s o = sym (over-says calls (client_of a) refl) ∙ over-of (client_of a) calls e b s o
+
 client-ends : (a : Asking) (old now : Places) (input left : Option (List (List ℕ))) (e : Session) (n : ℕ) (over : Bool) → e.talk.over ≡ over → client_run.IsEnd e left
-    → (p : client_run.Played (client_of a) old now input left e n) → ClientEnds (ending_of over n) (client.after p.calls (client_of a)) input p.texts
-client-ends a old now input left e n true is end p = (over-of (client_of a) p.calls e true p.stands is, uses-first input left p.texts p.used, p.counted)
+    → (p : client_run.Played (client_of a) old now input left e n) → ClientEnds (ending_of over n) (client.after p.calls (client_of a)) (client.acts_of p.calls (client_of a)) input p.texts
+client-ends a old now input left e n true is end p = (gave-up a p.calls e true p.stands is, uses-first input left p.texts p.used, p.counted)
 client-ends a old now input left e n false is (inl over) p = cc
 client-ends a old now input left e n false is (inr (isnt, closed, nothing)) p =
-    (over-of (client_of a) p.calls e false p.stands isnt, open-of (client_of a) p.calls e false p.stands closed, uses-all input left p.texts p.used nothing, p.counted)
+    (gave-up a p.calls e false p.stands isnt, open-of (client_of a) p.calls e false p.stands closed, uses-all input left p.texts p.used nothing, p.counted)
 
 pub client-came-to : (a : Asking) (s : Scene) (input left : Option (List (List ℕ))) (e : Session) (n : ℕ) (over : Bool) → input ≡ requests_in s.from → e.talk.over ≡ over → client_run.IsEnd e left
     → client_run.Played (client_of a) s.old s.now input left e n → CameTo (tasks.Client a) s (ending_of over n)
@@ -67,7 +72,7 @@ client-came-to a s input left e n over same is end p = (
     in_turn = p.in_turn;
     texts = p.texts;
     asked = p.asked;
-    ends = subst (λ (i : Option (List (List ℕ))). ClientEnds (ending_of over n) (client.after p.calls (client_of a)) i p.texts) same (client-ends a s.old s.now input left e n over is end p);
+    ends = subst (λ (i : Option (List (List ℕ))). ClientEnds (ending_of over n) (client.after p.calls (client_of a)) (client.acts_of p.calls (client_of a)) i p.texts) same (client-ends a s.old s.now input left e n over is end p);
     passed_is = refl;
   },
   p.done,

@@ -1,9 +1,12 @@
 -- What the run of a command does, from its beginning to its end, and at each place where it may break off.
 use Rattle.std.specs.Prelude.{ℕ, ◌≡◌, ◌-◌, ◌^◌, min, ⊤, Bool, true, false, List, [], ◌∷◌, ◌++◌, length, Option, None, Some, is_some}
+use Rattle.std.specs.List.{list_any}
 use Rattle.std.specs.Option.{option_map}
 use Rattle.mj_base.specs.declared.link.LinkEvent.{LinkEvent}
 use Rattle.mj_peer.specs.ClientEndRules as client
 use Rattle.mj_peer.specs.WorkerEndRules as worker
+use Rattle.mj_peer.specs.declared.act.Act.{Act}
+use Rattle.mj_peer.specs.declared.act.Act.TheVariants as act
 use Rattle.mj_peering.specs.ClientRun as client_run
 use Rattle.mj_peering.specs.Performing.{Round}
 use Rattle.mj_peering.specs.Requests.{requests}
@@ -32,11 +35,24 @@ abbrev pub AreFirst : Option (List (List ℕ)) → List (List ℕ) → Type 0
 AreFirst None texts = ⊤
 AreFirst (Some all) texts = (rest : List (List ℕ)) × (all ≡ texts ++ rest)
 
--- each request of the input was answered, or the last one that was asked was given up
-abbrev pub ClientEnds : Ending → client.Client → Option (List (List ℕ)) → List (List ℕ) → Type 0
-ClientEnds (endings.Answered n) c input texts = (c.talk.over ≡ false) × (is_some c.talk.request ≡ false) × AreAll input texts × (n ≡ min (length texts) (2 ^ 64 - 1))
-ClientEnds (endings.Served n) c input texts = ⊥
-ClientEnds (endings.NoAnswer n) c input texts = (c.talk.over ≡ true) × AreFirst input texts × (n ≡ min (length texts) (2 ^ 64 - 1))
+abbrev pub is_no_answer : Act → Bool
+is_no_answer (act.Write text) = false
+is_no_answer act.Reopen = false
+is_no_answer (act.Part body) = false
+is_no_answer (act.Done body) = false
+is_no_answer act.Served = false
+is_no_answer act.Finished = false
+is_no_answer act.NoAnswer = true
+
+-- `NoAnswer` is among these acts
+abbrev pub gives_up : List Act → Bool
+gives_up acts = list_any is_no_answer acts
+
+-- Each request of the input was answered; or the last one that was asked was given up, by the act `NoAnswer`.
+abbrev pub ClientEnds : Ending → client.Client → List Act → Option (List (List ℕ)) → List (List ℕ) → Type 0
+ClientEnds (endings.Answered n) c acts input texts = (gives_up acts ≡ false) × (is_some c.talk.request ≡ false) × AreAll input texts × (n ≡ min (length texts) (2 ^ 64 - 1))
+ClientEnds (endings.Served n) c acts input texts = ⊥
+ClientEnds (endings.NoAnswer n) c acts input texts = (gives_up acts ≡ true) × AreFirst input texts × (n ≡ min (length texts) (2 ^ 64 - 1))
 
 -- a request was given up, or the last one was answered
 abbrev pub ending_of : Bool → ℕ → Ending
@@ -49,7 +65,7 @@ pub record ClientDone (a : Asking) (input : Option (List (List ℕ))) (ending : 
   pub in_turn : client_run.AreInTurn calls (client_of a)
   pub texts : List (List ℕ)
   pub asked : client_run.bodies calls ≡ client_run.framed texts
-  pub ends : ClientEnds ending (client.after calls (client_of a)) input texts
+  pub ends : ClientEnds ending (client.after calls (client_of a)) (client.acts_of calls (client_of a)) input texts
   pub passed_is : passed ≡ client_run.rounds calls (client_of a)
 
 -- its first calls
