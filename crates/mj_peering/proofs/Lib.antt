@@ -2,3 +2,4 @@ mod PlaceLemmas
 mod RequestLemmas
 mod TurnLemmas
 mod RunLemmas
+mod WorkerLemmas

@@ -1,7 +1,6 @@
 -- What a link tells and what a sink has got, one thing behind the other.
-use Rattle.std.proofs.Common.{◌≡◌, ℕ, zero, List, [], ◌∷◌, ◌++◌, take, drop, refl, sym, ap, subst, ◌∙◌, append_assoc, append-nil, Option, None, Some, ◌+◌, ◌<◌, ◌≤◌, length, get_or, arith}
-use Rattle.std.proofs.lemmas.List.{drop_more, length-drop, take-append-drop, take_more}
-use Rattle.std.proofs.Math.ListN.{drop_of_length-le}
+use Rattle.std.proofs.Common.{◌≡◌, ℕ, List, [], ◌∷◌, ◌++◌, take, drop, refl, sym, ap, subst, ◌∙◌, append_assoc, append-nil, Option, None, Some, ◌+◌, ◌<◌, ◌≤◌, length, get_or, arith}
+use Rattle.std.proofs.lemmas.List.{drop_more, take-append-drop, take_more}
 use Rattle.std.specs.Io.KnownBytes.{Appends, Keeps}
 use Rattle.mj_base.specs.Linking.{Tells}
 use Rattle.mj_base.specs.declared.link.LinkEntry.{LinkEntry}
@@ -77,12 +76,6 @@ acts-at acts i a inside is =
 
 pub taken-more : (acts : List Act) (i : ℕ) (a : Act) → i < length acts → a ≡ get_or acts i a → take (i + 1) acts ≡ take i acts ++ a ∷ []
 taken-more acts i a inside is = take_more acts i a inside ∙ ap (λ (x : Act). take i acts ++ x ∷ []) (sym is)
-
-pub nothing-behind : (body : List (List ℕ)) (i : ℕ) → drop i body ≡ [] → drop (i + 1) body ≡ drop i body
-nothing-behind body i e =
-    let gone : length (drop i body) ≡ 0 = ap length e in
-    let long : length body ≤ i + 1 = (let l = length-drop i body in omega (arith, l, gone)) in
-    drop_of_length-le body long ∙ sym e
 
 -- ---- counts
 

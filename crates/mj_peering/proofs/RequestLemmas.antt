@@ -1,7 +1,6 @@
 -- A client's input, byte by byte.
-use Rattle.std.proofs.Common.{◌≡◌, ℕ, ◌==◌, Bool, true, false, ◌&&◌, List, [], ◌∷◌, ◌++◌, length, take, drop, refl, sym, ap, subst, ◌∙◌, append_assoc, append-nil, cond, Option, None, Some}
-use Rattle.std.proofs.lemmas.Bool.{false≢true}
-use Rattle.mj_peering.specs.Requests.{IsOver, Line, Takes, Uses, ended, grown, last, requests_from, takes, to_come, unread}
+use Rattle.std.proofs.Common.{◌≡◌, ℕ, ◌==◌, Bool, true, false, List, [], ◌∷◌, ◌++◌, length, refl, sym, ap, subst, ◌∙◌, append_assoc, append-nil, cond, Option, None, Some}
+use Rattle.mj_peering.specs.Requests.{IsOver, Line, Takes, Uses, last, requests_from, takes, to_come}
 
 pub uses-none : {X : Type 0} (old : Option (List X)) → Uses old old []
 uses-none None = tt

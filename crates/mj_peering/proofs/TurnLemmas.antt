@@ -1,27 +1,26 @@
 -- A call of a client's end, whole or in part.
-use Rattle.std.proofs.Common.{◌≡◌, ℕ, List, [], ◌∷◌, ◌++◌, take, refl, sym, ap, subst, ◌∙◌, append_assoc, append-nil, inl, inr, Result, Ok, Err, OnErr, IfErr}
-use Rattle.mj_base.specs.Linking.{Tells}
+use Rattle.std.proofs.Common.{◌≡◌, ℕ, List, [], ◌∷◌, ◌++◌, take, refl, sym, subst, append-nil, inl, inr, Result, Ok, Err, OnErr, IfErr}
 use Rattle.mj_base.specs.declared.link.LinkEntry.{LinkEntry}
 use Rattle.mj_base.specs.declared.link.LinkEvent.{LinkEvent}
-use Rattle.mj_peer.specs.ClientEndRules.{Asked, Call, Client, Met, Turn, turn_of}
-use Rattle.mj_peer.specs.ClientStands.{Does, Follows, Stands}
+use Rattle.mj_peer.specs.ClientEndRules.{Call, Met, turn_of}
+use Rattle.mj_peer.specs.ClientStands.{Follows}
 use Rattle.mj_peer.specs.declared.act.Act.{Act}
 use Rattle.mj_peer.specs.declared.session.Session.{Session}
 use Rattle.mj_peering.specs.ClientRun.{BrokeOff, IsCut, Turned, read_of, round_of}
-use Rattle.mj_peering.specs.Performing.{AreDone, ArePartly, Breaks, Counts, Moves, PerformCause, Performs, Places, Round, entries, entry_of, lines, printed, tale}
+use Rattle.mj_peering.specs.Performing.{AreDone, ArePartly, Breaks, Counts, Moves, PerformCause, Performs, Places, Round, entries, entry_of, lines, tale}
 use Rattle.mj_peering.specs.Requests.{ReadCause}
 use Rattle.mj_peering.specs.declared.stop.Stop.{Stop}
 use Rattle.mj_peering.specs.declared.stop.Stop.TheVariants as stops
 use Rattle.mj_peering.proofs.PlaceLemmas.{moves-more, moves-none}
 
 -- a round: what was read, and then its acts
-round-done : (old mid now : Places) (round : Round) → Moves old mid round.read [] → Performs mid now round.acts → AreDone old now (round ∷ [])
+pub round-done : (old mid now : Places) (round : Round) → Moves old mid round.read [] → Performs mid now round.acts → AreDone old now (round ∷ [])
 round-done old mid now round r p =
     let both = moves-more old mid now round.read (entries round.acts) [] (lines round.acts) r p in
     subst (λ (l : List ℕ). Moves old now (tale (round ∷ [])) l) (sym (append-nil (lines round.acts)))
     (subst (λ (l : List LinkEntry). Moves old now l (lines round.acts)) (sym (append-nil (round.read ++ entries round.acts))) both)
 
-round-cut : (old mid now : Places) (round : Round) → Moves old mid round.read [] → Breaks mid now round.acts → ArePartly old now [] round
+pub round-cut : (old mid now : Places) (round : Round) → Moves old mid round.read [] → Breaks mid now round.acts → ArePartly old now [] round
 round-cut old mid now round r b = record {
   done = b.done;
   rest = b.rest;

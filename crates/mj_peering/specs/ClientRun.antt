@@ -1,5 +1,5 @@
 -- A run of the command `client`: its calls, in turn, and what they read, write and print.
-use Rattle.std.specs.Prelude.{ℕ, ◌≡◌, ◌⊎◌, ◌-◌, ◌^◌, min, length, ⊤, true, false, List, [], ◌∷◌, ◌++◌, map, Option, None, Some, is_some}
+use Rattle.std.specs.Prelude.{ℕ, ◌≡◌, ◌⊎◌, ◌-◌, ◌^◌, min, length, ⊤, true, false, List, [], ◌∷◌, ◌++◌, map, Option, is_some}
 use Rattle.mj_base.specs.declared.link.LinkEntry.{LinkEntry}
 use Rattle.mj_base.specs.declared.link.LinkEvent.{LinkEvent}
 use Rattle.mj_peer.specs.ClientEndRules.{Asked, Call, Client, Met, after, turn_of}

@@ -1,7 +1,6 @@
 -- What is done to a link and a sink when the acts of an end are performed, and what is done in rounds of these.
 use Rattle.std.specs.Prelude.{ℕ, ◌≡◌, ◌≤◌, ◌⊎◌, ⊤, List, [], ◌∷◌, ◌++◌, take, Option, codes}
 use Rattle.std.specs.Io.KnownBytes.{Appends}
-use Rattle.hex.specs.Hex.{encode_lower}
 use Rattle.mj_base.specs.Linking.{Tells}
 use Rattle.mj_base.specs.Rising.{Rose}
 use Rattle.mj_base.specs.declared.link.LinkEntry.{LinkEntry}
@@ -10,23 +9,11 @@ use Rattle.mj_base.specs.declared.link.LinkEvent.{LinkEvent}
 use Rattle.mj_base.specs.declared.link.LinkEvent.TheVariants as event
 use Rattle.mj_peer.specs.declared.act.Act.{Act}
 use Rattle.mj_peer.specs.declared.act.Act.TheVariants as act
+use Rattle.mj_words.specs.Lines.{body_line}
 use Rattle.mj_peering.specs.declared.stop.Stop.{Stop}
 use Rattle.mj_peering.specs.declared.stop.Stop.TheVariants as stops
 
 -- ---- lines
-
--- a frame in hex, an empty one as `-`
-abbrev pub frame_word : List ℕ → List ℕ
-frame_word [] = codes "-"
-frame_word (c ∷ cs) = encode_lower (c ∷ cs)
-
--- each frame behind a space
-abbrev pub frames_text : List (List ℕ) → List ℕ
-frames_text [] = []
-frames_text (frame ∷ frames) = (32 ∷ frame_word frame) ++ frames_text frames
-
-abbrev pub body_line : List ℕ → List (List ℕ) → List ℕ
-body_line word body = word ++ (frames_text body ++ codes "\n")
 
 -- what is printed of an act: `part FRAMES`, `reply FRAMES`
 abbrev pub line_of : Act → List ℕ

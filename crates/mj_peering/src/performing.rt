@@ -1,13 +1,13 @@
 //! The acts of an end, done to a link and a sink.
 ghost use Rattle.std.specs.Prelude.{◌≡◌, ◌≤◌, ℕ, take, [], OnOk, OnErr, IfErr};
 ghost use Rattle.std.specs.Io.KnownBytes.{Appends};
-ghost use Rattle.mj_peering.specs.Performing;
 ghost use Rattle.mj_peering.specs.Performing.{AreLater, Breaks, Moves, PerformCause, Performs, PrintCause, counts, entries_of, line_of, places};
+ghost use Rattle.mj_words.specs.Lines;
 
-use super::lines::body_line;
 use super::stop::Stop;
 use mj_base::{Frames, Link, LinkWrite, Sink, WriteAnswer};
 use mj_peer::{Act, Acts};
+use mj_words::body_line;
 use std::alloc::Global;
 
 /// Does these acts, up to one that fails.
@@ -53,8 +53,8 @@ fn perform<L: Link, K: Sink>(
 }
 
 fn print_body<K: Sink>(alloc: Global, word: &str, body: &Frames, out: &mut K) -> Result<(), Stop>
-    ensures done { OnOk result (Appends (K.written out.old) (K.written out.new) (Performing.body_line word.now body.now)) }
-    ensures broken { OnErr result ((n : ℕ) × Appends (K.written out.old) (K.written out.new) (take n (Performing.body_line word.now body.now))) }
+    ensures done { OnOk result (Appends (K.written out.old) (K.written out.new) (Lines.body_line word.now body.now)) }
+    ensures broken { OnErr result ((n : ℕ) × Appends (K.written out.old) (K.written out.new) (take n (Lines.body_line word.now body.now))) }
     ensures cause { IfErr result (λ stop. PrintCause stop (K.faults out.old) (K.faults out.new)) }
     ensures later { K.faults out.old ≤ K.faults out.new }
     ensures wants_later { K.wants out.old ≤ K.wants out.new }

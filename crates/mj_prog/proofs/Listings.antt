@@ -117,6 +117,12 @@ next-by n index number id service stored numbers of (Some t) is e =
 pub next-of : (n : ℕ) (index : Fold Place) (number : ℕ) (id service : List ℕ) (stored : Bool) → AreNumbered index → number ≡ number_of id → Some (id, service, stored) ≡ option_map listed_as (open_above n index) → Next n index number id service stored
 next-of n index number id service stored numbers of e = next-by n index number id service stored numbers of (open_above n index) refl e
 
+pub triple : (id id_now service service_now : List ℕ) (stored stored_now : Bool) → id ≡ id_now → service ≡ service_now → stored ≡ stored_now
+    → ◌≡◌ {A = Option (List ℕ × List ℕ × Bool)} (Some (id, service, stored)) (Some (id_now, service_now, stored_now))
+triple id id_now service service_now stored stored_now same_id same_service same_stored =
+    let of : List ℕ → List ℕ → Bool → Option (List ℕ × List ℕ × Bool) = λ x y z. Some (x, y, z) in
+    ap (λ (x : List ℕ). of x service stored) same_id ∙ ap (λ (x : List ℕ). of id_now x stored) same_service ∙ ap (λ (x : Bool). of id_now service_now x) same_stored
+
 none-by : (o : Option (Ticket Place)) → None ≡ option_map listed_as o → o ≡ None
 none-by None e = refl
 none-by (Some t) e = absurd (none-some (listed_as t) e)

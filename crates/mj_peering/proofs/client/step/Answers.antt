@@ -1,8 +1,7 @@
-use Rattle.std.proofs.Common.{◌≡◌, ℕ, List, [], ◌∷◌, Option, sym, subst, ◌∙◌}
+use Rattle.std.proofs.Common.{ℕ, List, [], ◌∷◌, Option, sym, subst, ◌∙◌}
 use Rattle.std.specs.Prelude.{MatchOption}
 use Rattle.std.proofs.lemmas.Result.{err_from_is_err_and}
 use Rattle.mj_peering.specs.Feeding.{ahead}
-use Rattle.mj_peering.specs.Performing.{places}
 use Rattle.mj_peering.specs.Requests.{IsOver, Uses}
 use Rattle.mj_peering.proofs.RunLemmas.{halted-asked, halted-met, played-asked, played-met}
 use Rattle.mj_peering.proofs.client.step.Goals as goal

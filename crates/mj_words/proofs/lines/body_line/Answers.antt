@@ -1,9 +1,9 @@
-use Rattle.std.proofs.Common.{◌≡◌, ◌≤◌, ℕ, ◌+◌, ◌∷◌, ◌++◌, List, String, Global, drop, length, ap, sym, ◌∙◌, append_assoc, arith}
+use Rattle.std.proofs.Common.{ℕ, ◌+◌, ◌∷◌, ◌++◌, List, String, Global, drop, ap, sym, ◌∙◌, append_assoc}
 use Rattle.std.specs.Prelude.{string_bytes}
-use Rattle.mj_peering.specs.Performing.{frame_word, frames_text}
-use Rattle.mj_peering.proofs.PlaceLemmas.{nothing-behind}
-use Rattle.mj_peering.proofs.lines.body_line.Goals as goal
-use Rattle.mj_peering.proofs.lines.body_line.Goals.{in-Some+in_ok-push_frame, in_default}
+use Rattle.mj_words.specs.Lines.{frame_word, frames_text}
+use Rattle.mj_words.proofs.FrameLemmas.{nothing-behind}
+use Rattle.mj_words.proofs.lines.body_line.Goals as goal
+use Rattle.mj_words.proofs.lines.body_line.Goals.{in-Some+in_ok-push_frame, in_default}
 
 pub loop-i-preserved : goal.loop-i-preserved
 loop-i-preserved c =

@@ -1,14 +1,14 @@
-//! The lines that a client prints.
+//! Frames in printed lines.
 ghost use Rattle.std.specs.Prelude.{◌≡◌, ◌∷◌, ◌++◌, IfOk, OnOk, string_bytes};
-ghost use Rattle.mj_peering.specs.Performing;
-ghost use Rattle.mj_peering.specs.Performing.{frame_word};
+ghost use Rattle.mj_words.specs.Lines;
+ghost use Rattle.mj_words.specs.Lines.{frame_word};
 
 use mj_base::{Frames, NoMemory};
 use std::alloc::Global;
 
 /// A word, and each frame in hex behind a space; an empty one as `-`.
-pub(crate) fn body_line(alloc: Global, word: &str, body: &Frames) -> Result<String, NoMemory>
-    ensures { IfOk result (λ line. string_bytes line ≡ Performing.body_line word.now body.now) }
+pub fn body_line(alloc: Global, word: &str, body: &Frames) -> Result<String, NoMemory>
+    ensures { IfOk result (λ line. string_bytes line ≡ Lines.body_line word.now body.now) }
 {
     let mut line = String::from_str(alloc, word)?;
     for i in 0..body.len() {

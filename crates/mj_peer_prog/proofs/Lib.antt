@@ -1,0 +1,6 @@
+mod SinkLemmas
+mod OverLemmas
+mod RunRows
+mod StatusLaws
+mod FinishLemmas
+mod WordLemmas

@@ -1,0 +1,3 @@
+pub mod Helping
+pub mod Showing
+pub mod ShowingSoFar
