@@ -1,2 +1,4 @@
-pub mod Putting
-pub mod Causes
+mod Putting
+mod Causes
+mod Passing
+mod Taking

@@ -79,11 +79,3 @@ pub record AreNewPorts (lanes : ℕ) (ports : PortsState) : Type 0 where
   pub closed : All (λ opened. opened ≡ false) ports.lanes.opened
   pub count : length ports.lanes.outlets ≡ lanes
   pub going : ports.stopped ≡ false
-
-abbrev pub is_stop : Event → Bool
-is_stop (events.Open lane) = false
-is_stop (events.Bytes lane piece) = false
-is_stop (events.Sent lane) = false
-is_stop (events.Close lane) = false
-is_stop (events.Tick ms) = false
-is_stop events.Stop = true

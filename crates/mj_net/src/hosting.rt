@@ -2,6 +2,7 @@ ghost use Rattle.std.specs.Prelude.{◌≡◌, ◌+◌, ◌*◌, ◌-◌, ◌≤
 ghost use Rattle.std.specs.Fn.{FnOnceReturnsAtMut, FnOnceTakesAtMut};
 ghost use Rattle.mj_net.specs.Hosts.{HostCause};
 ghost use Rattle.mj_net.specs.Passing.{AreNewPorts, PortsState};
+ghost use Rattle.mj_net.specs.Standing.{Stands};
 
 use super::door::{Desk, Door};
 use super::lane_work::Work;
@@ -46,7 +47,7 @@ pub fn host<
     requires lanes { (1 ≤ lanes) × (lanes ≤ 64) }
     requires ready { T.ready spawner.old }
     requires hub { (ports : PortsState) → AreNewPorts lanes ports → FnOnceTakesAtMut F.FnOnce hub ports }
-    ensures status { IfOk result (λ status. (before after : PortsState) × FnOnceReturnsAtMut F.FnOnce hub before status after × AreNewPorts lanes before) }
+    ensures status { IfOk result (λ status. (before after : PortsState) × FnOnceReturnsAtMut F.FnOnce hub before status after × AreNewPorts lanes before × Stands before before [] []) }
     ensures started { OnOk result (T.count spawner.new ≡ min (T.count spawner.old + 2 * lanes + 1) (2 ^ 64 - 1)) }
     ensures cause { IfErr result (λ fault. HostCause fault (D.faults door.old) (D.faults door.new) (T.faults spawner.old) (T.faults spawner.new)) }
 {
@@ -168,7 +169,7 @@ fn run_hub<R: Wait + Drop, F: FnOnce(&mut NetPorts<R>) -> u8>(
     requires taken { pass.taken ≡ [] }
     requires put { All (λ o. o.put ≡ []) pass.outlets }
     requires hub { (ports : PortsState) → AreNewPorts lanes ports → FnOnceTakesAtMut F.FnOnce hub ports }
-    ensures { (before after : PortsState) × FnOnceReturnsAtMut F.FnOnce hub before result after × AreNewPorts lanes before }
+    ensures { (before after : PortsState) × FnOnceReturnsAtMut F.FnOnce hub before result after × AreNewPorts lanes before × Stands before before [] [] }
 {
     let mut ports = NetPorts::new(pass, lanes);
     run_over(&mut ports, hub)

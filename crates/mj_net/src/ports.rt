@@ -3,10 +3,14 @@ ghost use Rattle.mj_base.specs.EventBounds.{IsWithin};
 ghost use Rattle.mj_base.specs.declared.event.Event.TheVariants as event;
 ghost use Rattle.mj_base.specs.declared.event.Out.TheVariants as outs;
 ghost use Rattle.mj_lanes.specs.declared.outlet.Item.TheVariants as item;
-ghost use Rattle.mj_net.specs.Passing.{AreNewPorts, Act, PortsState, ended, is_stop, most_entries, passes, put_at};
+ghost use Rattle.mj_net.specs.Passing.{AreNewPorts, Act, PortsState, ended, most_entries, passes, put_at};
+ghost use Rattle.mj_net.specs.Standing.{Stands};
+ghost use Rattle.mj_serve.specs.Given.{is_stop};
 
-use mj_base::{Event, Octets};
+use mj_base::{Event, NoMemory, Note, Octets, Reason};
+use mj_disk::Disk;
 use mj_lanes::HubPass;
+use mj_serve::Ports;
 use std::marker::Model;
 use std::sync::Wait;
 
@@ -45,6 +49,7 @@ impl<R> NetPorts<R> {
         requires taken { hub.taken ≡ [] }
         requires put { All (λ o. o.put ≡ []) hub.outlets }
         ensures new { AreNewPorts lanes result }
+        ensures stands { Stands result result [] [] }
     {
         NetPorts {
             hub,
@@ -139,4 +144,37 @@ fn mark_lane<R: Wait>(hub: &mut HubPass<R>, lane: u32)
     ensures lanes { length hub.new.outlets ≡ length hub.old.outlets }
 {
     hub.mark(lane);
+}
+
+impl<R: Wait> Ports for NetPorts<R> {
+    ghost use Rattle.std.specs.Prelude.{◌-◌, length};
+    ghost use Rattle.mj_net.specs.Passing.{most_entries};
+    ghost use Rattle.mj_net.specs.Standing.{Stands};
+
+    ghost stand = { Stands };
+
+    ghost left = { λ p. most_entries - length p.taken };
+
+    ghost stopped = { λ p. p.stopped };
+
+    ghost lanes_in = { λ p. length p.lanes.outlets };
+
+    fn lanes(&self) -> u32 {
+        self.lanes
+    }
+
+    fn next(&mut self) -> Result<Event, NoMemory> {
+        Ok(self.take())
+    }
+
+    fn put<D: Disk>(&mut self, lane: u32, piece: Octets, _disk: &D) {
+        self.put_piece(lane, piece);
+    }
+
+    fn end(&mut self, lane: u32, _reason: Reason, _at: u64) {
+        self.end_lane(lane);
+    }
+
+    /// No lane is told.
+    fn note(&mut self, _note: Note) {}
 }
