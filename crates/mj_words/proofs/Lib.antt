@@ -1,0 +1,4 @@
+mod Digits
+mod OptionLaws
+mod FrameLemmas
+mod LineLemmas

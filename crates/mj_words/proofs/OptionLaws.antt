@@ -1,0 +1,94 @@
+-- Laws of options among words.
+use Rattle.std.proofs.Common.{◌≡◌, ◌<◌, ◌≤◌, ◌+◌, ◌-◌, ◌*◌, ◌/◌, ◌%◌, ◌&&◌, ℕ, suc, Bool, true, false, cond, nat_eq, List, [], ◌∷◌, length, get_or, map, drop, Option, None, refl, sym, ap, ◌∙◌, subst, arith, length-drop}
+use Rattle.std.proofs.Math.Seq.{drop-cons}
+use Rattle.std.proofs.lemmas.List.{get_or-map, length-map}
+use Rattle.std.specs.Str.{bytes_eq}
+use Rattle.mj_words.specs.declared.options.Found.{Found}
+use Rattle.mj_words.specs.declared.options.Found.TheVariants as founds
+use Rattle.mj_words.specs.Options.{IsFound, found_after, are_options, values_of, once_or}
+
+-- a word's bytes
+pub word-at : {X : Type 0} (f : X → List ℕ) (words : List X) (i : ℕ) (word : X) → i < length words → word ≡ get_or words i word → get_or (map f words) i [] ≡ f word
+word-at f words i word inside is = get_or-map f words i word [] inside ∙ ap f (sym is)
+
+-- an option's name has a value behind it
+pub option-inside : {X : Type 0} (f : X → List ℕ) (words : List X) (i : ℕ) → i < length words / 2 → 2 * i + 1 < length (map f words)
+option-inside f words i inside = let size : length (map f words) ≡ length words = length-map words f in omega arith
+
+-- the two words of an option, and what follows them
+pair-at : (words : List (List ℕ)) (i : ℕ) → 2 * i + 1 < length words
+    → drop (2 * i) words ≡ get_or words (2 * i) [] ∷ get_or words (2 * i + 1) [] ∷ drop (2 * (i + 1)) words
+pair-at words i inside =
+    let next : suc (2 * i) ≡ 2 * i + 1 = omega arith in
+    let after : suc (2 * i + 1) ≡ 2 * (i + 1) = omega arith in
+    let value : drop (suc (2 * i)) words ≡ get_or words (2 * i + 1) [] ∷ drop (2 * (i + 1)) words =
+    ap (λ (n : ℕ). drop n words) next ∙ drop-cons words (2 * i + 1) [] (omega arith) ∙ ap (λ (n : ℕ). get_or words (2 * i + 1) [] ∷ drop n words) after in
+    drop-cons words (2 * i) [] (omega arith) ∙ ap (λ (ws : List (List ℕ)). get_or words (2 * i) [] ∷ ws) value
+
+pub options-step : (known : List ℕ → Bool) (words : List (List ℕ)) (i : ℕ) → 2 * i + 1 < length words → known (get_or words (2 * i) []) ≡ true
+    → are_options known (drop (2 * i) words) ≡ are_options known (drop (2 * (i + 1)) words)
+options-step known words i inside is =
+    ap (are_options known) (pair-at words i inside) ∙ ap (λ (b : Bool). b && are_options known (drop (2 * (i + 1)) words)) is
+
+pub options-unknown : (known : List ℕ → Bool) (words : List (List ℕ)) (i : ℕ) → 2 * i + 1 < length words → known (get_or words (2 * i) []) ≡ false
+    → are_options known (drop (2 * i) words) ≡ false
+options-unknown known words i inside isnt =
+    ap (are_options known) (pair-at words i inside) ∙ ap (λ (b : Bool). b && are_options known (drop (2 * (i + 1)) words)) isnt
+
+left-over : {X : Type 0} (f : X → List ℕ) (words : List X) → length (drop (2 * (length words / 2)) (map f words)) ≡ length words % 2
+left-over f words =
+    let same : length (map f words) ≡ length words = length-map words f in
+    let size : length (drop (2 * (length words / 2)) (map f words)) ≡ length (map f words) - 2 * (length words / 2) = length-drop (2 * (length words / 2)) (map f words) in omega arith
+
+few-options : (known : List ℕ → Bool) (words : List (List ℕ)) → length words < 2 → are_options known words ≡ nat_eq (length words) 0
+few-options known [] few = refl
+few-options known (word ∷ []) few = refl
+few-options known (name ∷ value ∷ more) few = absurd (omega arith)
+
+-- no word is left over behind the options
+pub options-end : {X : Type 0} (known : List ℕ → Bool) (f : X → List ℕ) (words : List X) → are_options known (drop (2 * (length words / 2)) (map f words)) ≡ nat_eq (length words % 2) 0
+options-end known f words =
+    let size = left-over f words in
+    few-options known (drop (2 * (length words / 2)) (map f words)) (omega (arith, size)) ∙ ap (λ (n : ℕ). nat_eq n 0) size
+
+found-value : (words : List (List ℕ)) (answer : Found) (at : ℕ) (rest later values : List (List ℕ)) → at < length words → rest ≡ get_or words at [] ∷ later
+    → IsFound words answer rest values → IsFound words (found_after answer at) later values
+found-value words founds.Nowhere at rest later values inside e found = (inside, found ∙ e)
+found-value words (founds.At place) at rest later values inside e found =
+    let two : values ≡ get_or words place [] ∷ get_or words at [] ∷ later = found.1 ∙ ap (λ (ws : List (List ℕ)). get_or words place [] ∷ ws) e in rw two (omega arith)
+found-value words founds.Twice at rest later values inside e found = found
+
+-- one more value
+pub found-step : (words : List (List ℕ)) (name : List ℕ) (i : ℕ) (answer : Found) (values : List (List ℕ)) → 2 * i + 1 < length words
+    → bytes_eq (get_or words (2 * i) []) name ≡ true → IsFound words answer (values_of name (drop (2 * i) words)) values
+    → IsFound words (found_after answer (2 * i + 1)) (values_of name (drop (2 * (i + 1)) words)) values
+found-step words name i answer values inside same found =
+    let later = values_of name (drop (2 * (i + 1)) words) in
+    found-value words answer (2 * i + 1) (values_of name (drop (2 * i) words)) later values inside
+    (ap (values_of name) (pair-at words i inside) ∙ ap (λ (b : Bool). cond b (get_or words (2 * i + 1) [] ∷ later) later) same) found
+
+-- another option
+pub found-other : (words : List (List ℕ)) (name : List ℕ) (i : ℕ) (answer : Found) (values : List (List ℕ)) → 2 * i + 1 < length words
+    → bytes_eq (get_or words (2 * i) []) name ≡ false → IsFound words answer (values_of name (drop (2 * i) words)) values
+    → IsFound words answer (values_of name (drop (2 * (i + 1)) words)) values
+found-other words name i answer values inside other found =
+    let later = values_of name (drop (2 * (i + 1)) words) in
+    subst (λ (rest : List (List ℕ)). IsFound words answer rest values)
+    (ap (values_of name) (pair-at words i inside) ∙ ap (λ (b : Bool). cond b (get_or words (2 * i + 1) [] ∷ later) later) other) found
+
+no-values : (words : List (List ℕ)) (name : List ℕ) → length words < 2 → values_of name words ≡ []
+no-values [] name few = refl
+no-values (word ∷ []) name few = refl
+no-values (other ∷ value ∷ more) name few = absurd (omega arith)
+
+pub found-end : {X : Type 0} (f : X → List ℕ) (words : List X) (name : List ℕ) (answer : Found) (values : List (List ℕ))
+    → IsFound (map f words) answer (values_of name (drop (2 * (length words / 2)) (map f words))) values → IsFound (map f words) answer [] values
+found-end f words name answer values found =
+    let size = left-over f words in
+    subst (λ (rest : List (List ℕ)). IsFound (map f words) answer rest values) (no-values (drop (2 * (length words / 2)) (map f words)) name (omega (arith, size))) found
+
+-- an option that is given more than once has no value
+pub once-twice : {A : Type 0} (default : A) (read : List ℕ → Option A) (values : List (List ℕ)) → 2 ≤ length values → None ≡ once_or default read values
+once-twice default read [] two = absurd (omega arith)
+once-twice default read (value ∷ []) two = absurd (omega arith)
+once-twice default read (value ∷ other ∷ more) two = refl
