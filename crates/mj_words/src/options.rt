@@ -35,13 +35,7 @@ fn is_option(name: &str, one: &str, two: &str, three: &str) -> bool
 
 /// The number that the option with this name has among the words, of which each two are an option; the default where it
 /// isn't given. None where it is given twice, or its value is no number from `least` to `most`.
-pub fn read_option(
-    words: &[String],
-    name: &str,
-    default: u64,
-    least: u64,
-    most: u64,
-) -> Option<u64>
+pub fn read_option(words: &[String], name: &str, default: u64, least: u64, most: u64) -> Option<u64>
     ensures exact { result ≡ once_or default (number_between least most) (values_of name.now (map string_bytes words.now)) }
     ensures least { IfSome result (λ n. min default least ≤ n) }
     ensures most { IfSome result (λ n. n ≤ max default most) }
