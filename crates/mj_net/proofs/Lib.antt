@@ -1,0 +1,4 @@
+mod Putting
+mod Causes
+mod Passing
+mod Taking
