@@ -6,3 +6,4 @@ pub mod DeskLemmas
 pub mod OpenLemmas
 pub mod ReadyLemmas
 pub mod FloorLemmas
+pub mod TakeLemmas
