@@ -7,3 +7,6 @@ pub mod OpenLemmas
 pub mod ReadyLemmas
 pub mod FloorLemmas
 pub mod TakeLemmas
+pub mod WalkLemmas
+pub mod HallLemmas
+pub mod TakenLemmas

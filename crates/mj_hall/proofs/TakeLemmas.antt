@@ -78,11 +78,11 @@ module _ {T : Type 0} where
       of false g h true i later = rw g (later h)
       of false g h false i later = later h
 
-  record Kept (q : T → Bool) (k : ℕ) (v : T) (xs : List (Seat T)) : Type 0 where
-    there : found k xs ≡ Some v
-    passes : q v ≡ true
+  pub record Kept (q : T → Bool) (k : ℕ) (v : T) (xs : List (Seat T)) : Type 0 where
+    pub there : found k xs ≡ Some v
+    pub passes : q v ≡ true
 
-  filter-found : (q : T → Bool) (k : ℕ) (v : T) (xs : List (Seat T)) → are_distinct seat_key xs ≡ true → found k (filter (λ s. q s.value) xs) ≡ Some v → Kept q k v xs
+  pub filter-found : (q : T → Bool) (k : ℕ) (v : T) (xs : List (Seat T)) → are_distinct seat_key xs ≡ true → found k (filter (λ s. q s.value) xs) ≡ Some v → Kept q k v xs
   filter-found q k v [] d e = cc
   filter-found q k v (s ∷ ss) d e = of (q s.value) refl e (λ h. filter-found q k v ss (distinct_parts seat_key s ss d).1 h)
     where

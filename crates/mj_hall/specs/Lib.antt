@@ -4,3 +4,6 @@ pub mod Ends
 pub mod Desks
 pub mod Ready
 pub mod Floor
+pub mod Walk
+pub mod HallValue
+pub mod Stands

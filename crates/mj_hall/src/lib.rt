@@ -3,9 +3,11 @@
 #![tactic(auto)]
 
 mod asking;
+mod counts;
 mod desks;
 mod ends_kept;
 mod floor;
+mod hall;
 mod kept;
 mod lasts;
 mod ready;
@@ -16,6 +18,7 @@ pub use asking::{last_of, request_in, request_out};
 pub use desks::{open, shut};
 pub use ends_kept::{ends, ends_with, ends_without};
 pub use floor::{request_comes, request_leaves};
+pub use hall::Hall;
 pub use kept::{Queued, Worker};
 pub use ready::{mark, unmark};
 pub use serving::{worker_in, worker_of, worker_out};

@@ -1,10 +1,11 @@
-ghost use Rattle.std.specs.Prelude.{◌≡◌, ◌+◌, ◌≤◌, ◌<◌, ℕ, List, None, Some, true};
+ghost use Rattle.std.specs.Prelude.{◌≡◌, ◌+◌, ◌≤◌, ◌<◌, ◌∷◌, ℕ, List, None, Some, true, false};
 ghost use Rattle.std.specs.Option.{option_map};
 ghost use Rattle.mj_counted.specs.Rows.{entry};
 ghost use Rattle.mj_chain.specs.Nodes.{RowsAre};
 ghost use Rattle.mj_chain.specs.Seats.{Seat, are_distinct, seat_key};
-ghost use Rattle.mj_hall.specs.Asking.{queued_classes};
+ghost use Rattle.mj_hall.specs.Asking.{of_desk, queued_classes};
 ghost use Rattle.mj_hall.specs.Desks.{desk_of};
+ghost use Rattle.mj_hall.specs.Serving.{workers_at};
 ghost use Rattle.mj_hall.specs.Ready.{ReadyBut, pair_in};
 
 use crate::kept::{Queued, Worker};
@@ -22,6 +23,20 @@ fn label_of<L: Ledger>(desks: &Rows<Desk>, requests: &Rows<Node<Queued>>, key: u
     let row = desk.requests.first?;
     match requests.get(row, steps) {
         Some(node) => Some(node.value.label),
+        None => None,
+    }
+}
+
+/// The first request at this desk and the first worker that waits there.
+pub fn firsts_of<L: Ledger>(desks: &Rows<Desk>, key: usize, steps: &mut Steps<L>) -> Option<(usize, usize)>
+    ensures firsts { (es later : List (Seat Queued)) (ws others : List (Seat Worker)) (e : Seat Queued) (w : Seat Worker) → entry desks.now key ≡ Some (desk_of key es ws) → of_desk key es ≡ e ∷ later → workers_at false key ws ≡ w ∷ others → result ≡ Some (e.key, w.key) }
+    ensures cost { steps.new ≡ steps.old + 1 }
+{
+    match desks.get(key, steps) {
+        Some(desk) => match (desk.requests.first, desk.waiting.first) {
+            (Some(request), Some(worker)) => Some((request, worker)),
+            _ => None,
+        },
         None => None,
     }
 }
