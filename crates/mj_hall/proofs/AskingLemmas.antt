@@ -7,10 +7,8 @@ use Rattle.mj_counted.specs.declared.rows.Rows.{Rows}
 use Rattle.mj_counted.specs.Rows.{entries, entry}
 use Rattle.mj_counted.specs.Pairs.{has_pair}
 use Rattle.mj_chain.specs.declared.node.Ends.{Ends}
-use Rattle.mj_chain.specs.declared.node.Link.{Link}
 use Rattle.mj_chain.specs.declared.node.Node.{Node}
-use Rattle.mj_chain.specs.Links.{ends_of, link_in}
-use Rattle.mj_chain.specs.Nodes.{AreClasses, IsClass, RowsAre, fresh, joined_by, left_by, node_at}
+use Rattle.mj_chain.specs.Nodes.{AreClasses, fresh, joined_by, left_by, node_at}
 use Rattle.mj_chain.specs.Seats.{Seat, are_distinct, found, has_key, head_of, is_key, is_no_key, last_from, next_in, prev_from, seat_key, take_out}
 use Rattle.mj_chain.proofs.ListLemmas.{distinct-append, distinct-filter, distinct_parts, ends-append, ends-out, out-absent, same_key}
 use Rattle.mj_chain.proofs.RowLemmas.{absent-found, alike-append, alike-out, found-key, not_in_chain, rows-append, rows-out}
@@ -121,7 +119,7 @@ has_last-out make old new es k x d at_k was changed p = changed p ∙ of (same_o
         let same : make p.0 ≡ x.request.origin = same_is (make p.0) x.request.origin e in
         subst (λ (q : Origin). last_from seat_key None (take_out seat_key k (of_origin q es)) ≡ cond (is_no_key (next_in seat_key k (of_origin x.request.origin es))) (prev_from seat_key None k (of_origin x.request.origin es)) (last_from seat_key None (of_origin q es))) (sym same)
         (ap (λ (ends : Ends). ends.last) (ends-out seat_key k (of_origin x.request.origin es) (distinct-filter seat_key (λ s. same_origin x.request.origin s.value.request.origin) es d)
-          (in_chain (λ (v : Queued). same_origin x.request.origin v.request.origin) x k es at_k (own_origin x.request.origin))))
+        (in_chain (λ (v : Queued). same_origin x.request.origin v.request.origin) x k es at_k (own_origin x.request.origin))))
 
     pulled : (b : Bool) (u v : Option ℕ) → cond b (is_key p.1 u) (is_key p.1 v) ≡ is_key p.1 (cond b u v)
     pulled true u v = refl

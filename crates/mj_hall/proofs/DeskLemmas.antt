@@ -1,10 +1,7 @@
 -- The desks of a hall, once somebody leaves one or comes.
-use Rattle.std.proofs.Common.{◌≡◌, ℕ, suc, ◌+◌, ◌==◌, Bool, true, false, not, cond, ◌||◌, ◌&&◌, List, [], ◌∷◌, ◌++◌, append-nil, Option, Some, None, refl, sym, ◌∙◌, ap, subst, arith}
+use Rattle.std.proofs.Common.{◌≡◌, ℕ, ◌==◌, Bool, true, false, cond, ◌&&◌, List, [], ◌∷◌, ◌++◌, append-nil, Option, Some, None, refl, sym, ◌∙◌, ap, subst, arith}
 use Rattle.std.specs.List.{filter}
 use Rattle.std.specs.Option.{option_map}
-use Rattle.std.specs.Str.{bytes_eq}
-use Rattle.std.specs.Cmp.Lexicographic.{bytes_decides}
-use Rattle.std.proofs.lemmas.Bool.{and_parts}
 use Rattle.std.proofs.lemmas.Bool.Decides.{nat_tests}
 use Rattle.mj_counted.specs.declared.index.Index.{Index}
 use Rattle.mj_counted.specs.declared.rows.Rows.{Rows}
@@ -12,14 +9,14 @@ use Rattle.mj_counted.specs.Names.{key_of}
 use Rattle.mj_counted.specs.Rows.{entry}
 use Rattle.mj_chain.specs.declared.desk.Desk.{Desk}
 use Rattle.mj_chain.specs.declared.desk.Line.{Line}
-use Rattle.mj_chain.specs.declared.desk.Line.TheVariants.{Requests, Waiting, Busy}
+use Rattle.mj_chain.specs.declared.desk.Line.TheVariants.{Requests}
 use Rattle.mj_chain.specs.declared.node.Ends.{Ends}
 use Rattle.mj_chain.specs.declared.node.Link.{Link}
 use Rattle.mj_chain.specs.Desks.{line_of, with_line}
 use Rattle.mj_chain.specs.Links.{ends_of, link_in, prolonged, unended}
-use Rattle.mj_chain.specs.Seats.{Seat, are_distinct, found, has_key, head_of, seat_key, take_out}
-use Rattle.mj_chain.proofs.ListLemmas.{distinct-filter, distinct_parts, ends-append, ends-out, out-absent, same_key}
-use Rattle.mj_chain.proofs.RowLemmas.{absent-found, alike-append, alike-out, found-append, found-key, found-out, not_in_chain}
+use Rattle.mj_chain.specs.Seats.{Seat, are_distinct, found, has_key, seat_key, take_out}
+use Rattle.mj_chain.proofs.ListLemmas.{distinct-filter, ends-append, ends-out, out-absent}
+use Rattle.mj_chain.proofs.RowLemmas.{alike-append, alike-out, found-append, found-out, not_in_chain}
 use Rattle.mj_hall.specs.declared.kept.Queued.{Queued}
 use Rattle.mj_hall.specs.declared.kept.Worker.{Worker}
 use Rattle.mj_hall.specs.Asking.{of_desk}

@@ -1,12 +1,12 @@
 -- Ends that are kept as numbers, once a row leaves the chain or comes.
-use Rattle.std.proofs.Common.{◌≡◌, ℕ, suc, ◌+◌, ◌<◌, ◌==◌, Bool, true, false, cond, List, [], ◌∷◌, ◌++◌, length, length-append, Option, Some, None, refl, sym, ◌∙◌, ap, subst, arith, unwrap_or}
+use Rattle.std.proofs.Common.{◌≡◌, ℕ, suc, ◌+◌, ◌<◌, ◌==◌, Bool, true, false, cond, List, [], ◌∷◌, ◌++◌, length, length-append, Option, Some, None, refl, sym, ◌∙◌, ap, arith, unwrap_or}
 use Rattle.std.proofs.lemmas.Bool.Decides.{nat_tests}
 use Rattle.mj_chain.specs.declared.node.Ends.{Ends}
 use Rattle.mj_chain.specs.declared.node.Link.{Link}
-use Rattle.mj_chain.specs.Links.{ends_of, link_in, prolonged, unended}
-use Rattle.mj_chain.specs.Seats.{Seat, are_distinct, found, has_key, head_of, is_no_key, last_from, seat_key, take_out}
+use Rattle.mj_chain.specs.Links.{ends_of, link_in, unended}
+use Rattle.mj_chain.specs.Seats.{Seat, are_distinct, has_key, head_of, is_no_key, last_from, seat_key, take_out}
 use Rattle.mj_chain.proofs.ListLemmas.{ends-append, ends-out}
-use Rattle.mj_hall.specs.Ends.{EndsAre, ends_from}
+use Rattle.mj_hall.specs.Ends.{EndsAre}
 use Rattle.mj_hall.proofs.AskingLemmas.{length-out}
 
 zero_is : (n : ℕ) → (n == 0) ≡ true → n ≡ 0

@@ -1,29 +1,26 @@
 -- A request or a worker leaves, or comes: its rows, its desk and the ends of the list of all together.
-use Rattle.std.proofs.Common.{◌≡◌, ℕ, suc, ◌+◌, ◌<◌, ◌==◌, Bool, true, false, not, cond, ◌||◌, ◌&&◌, List, [], ◌∷◌, ◌++◌, append-nil, Option, Some, None, refl, sym, ◌∙◌, ap, subst, arith, unwrap_or}
-use Rattle.std.specs.List.{filter}
+use Rattle.std.proofs.Common.{◌≡◌, ℕ, ◌+◌, ◌<◌, ◌==◌, Bool, true, false, not, cond, List, [], ◌∷◌, ◌++◌, Option, Some, refl, sym, ◌∙◌, ap, subst, unwrap_or}
 use Rattle.mj_counted.specs.declared.index.Index.{Index}
 use Rattle.mj_counted.specs.declared.rows.Rows.{Rows}
 use Rattle.mj_counted.specs.Rows.{entry}
 use Rattle.mj_chain.specs.declared.desk.Desk.{Desk}
 use Rattle.mj_chain.specs.declared.desk.Line.TheVariants.{Requests}
-use Rattle.mj_chain.specs.declared.node.Ends.{Ends}
-use Rattle.mj_chain.specs.declared.node.Link.{Link}
 use Rattle.mj_chain.specs.declared.node.Node.{Node}
 use Rattle.mj_chain.specs.Links.{link_in}
 use Rattle.mj_chain.specs.Nodes.{node_at}
-use Rattle.mj_chain.specs.Seats.{Seat, found, is_no_key, last_from, seat_key, take_out}
+use Rattle.mj_chain.specs.Seats.{Seat, found, is_no_key, seat_key, take_out}
 use Rattle.mj_chain.proofs.ListLemmas.{distinct-filter}
 use Rattle.mj_chain.proofs.RowLemmas.{found-key}
 use Rattle.mj_hall.specs.declared.kept.Queued.{Queued}
 use Rattle.mj_hall.specs.declared.kept.Worker.{Worker}
-use Rattle.mj_hall.specs.Asking.{Asking, of_desk, queued_classes}
+use Rattle.mj_hall.specs.Asking.{Asking, queued_classes}
 use Rattle.mj_hall.specs.Desks.{Desks, worker_line}
 use Rattle.mj_hall.specs.Ends.{EndsAre}
-use Rattle.mj_hall.specs.Serving.{Serving, same_bool, worker_classes, workers_at, workers_of}
+use Rattle.mj_hall.specs.Serving.{Serving, same_bool, worker_classes, workers_of}
 use Rattle.mj_hall.proofs.AskingLemmas.{all_pass, in_chain}
 use Rattle.mj_hall.proofs.AskingLemmas as asking
 use Rattle.mj_hall.proofs.ServingLemmas as serving
-use Rattle.mj_hall.proofs.DeskLemmas.{LineLeft, desks-request_out, desks-worker_out, part-in, part-out, part-same, part-stays}
+use Rattle.mj_hall.proofs.DeskLemmas.{LineLeft, desks-request_out, desks-worker_out, part-same, part-stays}
 use Rattle.mj_hall.proofs.EndLemmas.{count_some, ends_in, ends_out}
 
 same_some : {A : Type 0} (o : Option A) (x y : A) → o ≡ Some x → o ≡ Some y → x ≡ y

@@ -1,5 +1,5 @@
 -- Which desks have a pair, once one is hidden, changed, or shown again.
-use Rattle.std.proofs.Common.{◌≡◌, ℕ, suc, ◌+◌, ◌==◌, Bool, true, false, not, cond, ◌||◌, ◌&&◌, List, [], ◌∷◌, ◌++◌, Option, Some, None, refl, sym, ◌∙◌, ap, subst, arith}
+use Rattle.std.proofs.Common.{◌≡◌, ℕ, ◌==◌, Bool, true, false, not, cond, ◌||◌, ◌&&◌, List, [], ◌∷◌, Option, Some, None, refl, sym, ◌∙◌, ap, subst, arith}
 use Rattle.std.specs.List.{filter}
 use Rattle.std.specs.Option.{option_map}
 use Rattle.std.proofs.lemmas.Bool.Decides.{nat_tests}
@@ -9,7 +9,7 @@ use Rattle.mj_counted.specs.Rows.{entry}
 use Rattle.mj_chain.specs.declared.desk.Desk.{Desk}
 use Rattle.mj_chain.specs.declared.node.Node.{Node}
 use Rattle.mj_chain.specs.Nodes.{RowsAre, node_at}
-use Rattle.mj_chain.specs.Seats.{Seat, are_distinct, found, has_key, head_of, is_key, seat_key}
+use Rattle.mj_chain.specs.Seats.{Seat, are_distinct, found, has_key, head_of, seat_key}
 use Rattle.mj_chain.proofs.ListLemmas.{distinct_parts, same_key}
 use Rattle.mj_chain.proofs.RowLemmas.{found-key}
 use Rattle.mj_hall.specs.declared.kept.Queued.{Queued}

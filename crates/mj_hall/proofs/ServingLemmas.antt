@@ -1,5 +1,5 @@
 -- The workers of a hall, once one leaves or comes.
-use Rattle.std.proofs.Common.{◌≡◌, ℕ, suc, ◌+◌, ◌==◌, Bool, true, false, not, cond, ◌||◌, ◌&&◌, List, [], ◌∷◌, ◌++◌, length, length-append, Option, Some, None, is_some, IfSome, IfNone, refl, sym, ◌∙◌, ap, subst, arith}
+use Rattle.std.proofs.Common.{◌≡◌, ℕ, ◌+◌, ◌==◌, Bool, true, false, not, cond, ◌||◌, ◌&&◌, List, [], ◌∷◌, ◌++◌, length-append, Option, Some, None, IfNone, refl, sym, ◌∙◌, ap, subst, arith}
 use Rattle.std.specs.List.{filter}
 use Rattle.std.specs.Option.{option_map}
 use Rattle.std.proofs.lemmas.Bool.{and_parts}
@@ -8,7 +8,7 @@ use Rattle.mj_counted.specs.declared.rows.Rows.{Rows}
 use Rattle.mj_counted.specs.Rows.{entries, entry}
 use Rattle.mj_counted.specs.Pairs.{has_pair, same_pair}
 use Rattle.mj_chain.specs.declared.node.Node.{Node}
-use Rattle.mj_chain.specs.Nodes.{AreClasses, RowsAre, fresh, joined_by, left_by, node_at}
+use Rattle.mj_chain.specs.Nodes.{AreClasses, fresh, joined_by, left_by, node_at}
 use Rattle.mj_chain.specs.Seats.{Seat, are_distinct, found, has_key, last_from, seat_key, take_out}
 use Rattle.mj_chain.proofs.ListLemmas.{distinct-append, distinct-filter, distinct_parts, same_key}
 use Rattle.mj_chain.proofs.RowLemmas.{absent-found, alike-append, alike-out, found-append, found-key, found-out, rows-append, rows-out}

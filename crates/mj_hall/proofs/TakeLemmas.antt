@@ -1,5 +1,5 @@
 -- The first pair of the order is the pair of the flat lists.
-use Rattle.std.proofs.Common.{◌≡◌, ℕ, suc, ◌+◌, ◌<◌, ◌==◌, nat_lt, Bool, true, false, not, cond, ◌||◌, ◌&&◌, List, [], ◌∷◌, ◌++◌, map, Option, Some, None, refl, sym, ◌∙◌, ap, subst, arith}
+use Rattle.std.proofs.Common.{◌≡◌, ℕ, ◌==◌, nat_lt, Bool, true, false, cond, ◌||◌, ◌&&◌, List, [], ◌∷◌, map, Option, Some, None, refl, sym, ◌∙◌, ap, subst, arith}
 use Rattle.std.specs.List.{filter, list_all, list_any}
 use Rattle.std.specs.Option.{option_map}
 use Rattle.std.specs.Str.{bytes_eq}
@@ -9,14 +9,13 @@ use Rattle.std.proofs.lemmas.Bool.Decides.{nat_tests}
 use Rattle.mj_counted.specs.declared.index.Index.{Index}
 use Rattle.mj_counted.specs.declared.rows.Rows.{Rows}
 use Rattle.mj_counted.specs.Names.{key_of}
-use Rattle.mj_counted.specs.Pairs.{StandsAt, has_pair, is_below, is_pair, same_pair}
+use Rattle.mj_counted.specs.Pairs.{has_pair, is_below, is_pair}
 use Rattle.mj_chain.specs.declared.desk.Desk.{Desk}
 use Rattle.mj_chain.specs.Seats.{Seat, are_distinct, found, has_key, seat_key, take_out}
 use Rattle.mj_chain.proofs.ListLemmas.{distinct-filter, distinct_parts, out-absent, same_key}
 use Rattle.mj_chain.proofs.RowLemmas.{found-key}
 use Rattle.mj_queue.specs.declared.request.Request.{Request}
-use Rattle.mj_queue.specs.declared.worker.Waiter.{Waiter}
-use Rattle.mj_queue.specs.Settling.{Pair, given, has_waiter, pair, paired, put_back, serves, take_first}
+use Rattle.mj_queue.specs.Settling.{given, has_waiter, pair, paired, put_back, serves, take_first}
 use Rattle.mj_hall.specs.declared.kept.Queued.{Queued}
 use Rattle.mj_hall.specs.declared.kept.Worker.{Worker}
 use Rattle.mj_hall.specs.Asking.{of_desk}
@@ -318,7 +317,7 @@ module _ (desks : Rows Desk) (names : Index) (es : List (Seat Queued)) (ws : Lis
   pair_is pairs d e w later others ready asks waits least =
       ap (paired (waiters_of (workers_of false ws))) (least_first (has_waiter (waiters_of (workers_of false ws))) es e distinct_es rise at_e has none_before)
       ∙ ap (option_map (given (e.value.request, requests_of (take_out seat_key e.key es)))) (first_is (λ (v : Worker). v.waiter) (serves e.value.request.service) (λ (v : Worker). v.desk == d) (workers_of false ws) w others
-        (distinct-filter seat_key (λ s. same_bool false s.value.busy) ws distinct_ws) decided (filter-filter (λ (v : Worker). v.desk == d) (λ (v : Worker). same_bool false v.busy) ws ∙ waits))
+      (distinct-filter seat_key (λ s. same_bool false s.value.busy) ws distinct_ws) decided (filter-filter (λ (v : Worker). v.desk == d) (λ (v : Worker). same_bool false v.busy) ws ∙ waits))
     where
       at_e : found e.key es ≡ Some e.value
       at_e = head_found (λ (v : Queued). v.desk == d) es e later distinct_es asks

@@ -1,5 +1,5 @@
 -- A hall once its first pair is taken.
-use Rattle.std.proofs.Common.{◌≡◌, ℕ, suc, ◌+◌, ◌≤◌, ◌==◌, nat_lt, Bool, true, false, not, cond, ◌||◌, ◌&&◌, List, [], ◌∷◌, ◌++◌, length, length-append, map, Option, Some, None, refl, sym, ◌∙◌, ap, subst, arith}
+use Rattle.std.proofs.Common.{◌≡◌, ℕ, ◌+◌, ◌≤◌, ◌==◌, nat_lt, Bool, true, false, not, cond, ◌&&◌, List, [], ◌∷◌, ◌++◌, length, length-append, Option, Some, refl, sym, ◌∙◌, ap, subst, arith}
 use Rattle.std.specs.List.{filter, list_all, sum_by}
 use Rattle.std.proofs.lemmas.Bool.{and_parts, and_from}
 use Rattle.std.proofs.lemmas.Bool.Decides.{nat_tests}
@@ -16,7 +16,7 @@ use Rattle.mj_hall.specs.declared.hall.Hall.TheInside.{Inside}
 use Rattle.mj_hall.specs.declared.kept.Queued.{Queued}
 use Rattle.mj_hall.specs.declared.kept.Worker.{Worker}
 use Rattle.mj_hall.specs.Asking.{of_desk}
-use Rattle.mj_hall.specs.Desks.{Desks, desk_of}
+use Rattle.mj_hall.specs.Desks.{desk_of}
 use Rattle.mj_hall.specs.Floor.{labels_below, labels_rise, requests_of, waiters_of}
 use Rattle.mj_base.specs.declared.limits.Limits.{Limits}
 use Rattle.mj_queue.specs.HallState.{HallState}
@@ -24,7 +24,7 @@ use Rattle.mj_queue.specs.HallSteps.{taken}
 use Rattle.mj_queue.specs.declared.worker.Waiter.{Waiter}
 use Rattle.mj_hall.specs.HallValue.{HallValue}
 use Rattle.mj_hall.specs.Ready.{ReadyBut, first_pair, pair_in}
-use Rattle.mj_hall.specs.Serving.{same_bool, workers_at, workers_of}
+use Rattle.mj_hall.specs.Serving.{same_bool, workers_of}
 use Rattle.mj_hall.specs.Stands.{Stands}
 use Rattle.mj_hall.proofs.DeskLemmas.{part-same, part-stays}
 use Rattle.mj_hall.proofs.AskingLemmas.{in_chain, length-out}

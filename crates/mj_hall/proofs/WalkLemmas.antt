@@ -1,8 +1,6 @@
 -- A walk along the chain of all gives the list.
-use Rattle.std.proofs.Common.{◌≡◌, ℕ, zero, suc, ◌+◌, ◌-◌, ◌^◌, ◌==◌, Bool, true, false, not, cond, ◌||◌, ◌&&◌, List, [], ◌∷◌, ◌++◌, append_assoc, length, map, Option, Some, None, refl, sym, ◌∙◌, ap, subst, arith}
-use Rattle.std.specs.List.{filter}
+use Rattle.std.proofs.Common.{◌≡◌, ℕ, ◌-◌, ◌^◌, ◌==◌, Bool, true, false, ◌||◌, List, [], ◌∷◌, ◌++◌, append_assoc, length, map, Option, Some, refl, sym, ◌∙◌, ap, subst, arith}
 use Rattle.std.specs.Option.{option_map}
-use Rattle.std.proofs.lemmas.Bool.{or_parts}
 use Rattle.std.proofs.lemmas.Bool.Decides.{nat_tests}
 use Rattle.mj_base.specs.declared.limits.Limits.{Limits}
 use Rattle.mj_counted.specs.declared.rows.Rows.{Rows}
@@ -12,8 +10,6 @@ use Rattle.mj_chain.specs.declared.node.Node.{Node}
 use Rattle.mj_chain.specs.Nodes.{Classes, RowsAre, alike, node_at}
 use Rattle.mj_chain.specs.Seats.{Seat, are_distinct, found, has_key, head_of, next_in, seat_key}
 use Rattle.mj_chain.proofs.ListLemmas.{distinct-filter, distinct_parts, same_key}
-use Rattle.mj_chain.proofs.RowLemmas.{found-key}
-use Rattle.mj_queue.specs.HallState.{HallState}
 use Rattle.mj_queue.specs.declared.request.Request.{Request}
 use Rattle.mj_queue.specs.declared.worker.Waiter.{Waiter}
 use Rattle.mj_hall.specs.declared.hall.Hall.TheInside.{Inside}

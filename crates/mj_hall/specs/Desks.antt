@@ -1,13 +1,12 @@
 -- The desks of a hall: one for each service that somebody asks for or serves, found by its name.
-use Rattle.std.specs.Prelude.{◌≡◌, ℕ, Bool, true, false, if◌then◌else◌, List, Option, None, Some}
-use Rattle.std.specs.Str.{bytes_eq}
+use Rattle.std.specs.Prelude.{◌≡◌, ℕ, Bool, true, false, List, Some}
 use Rattle.mj_counted.specs.declared.index.Index.{Index}
 use Rattle.mj_counted.specs.declared.rows.Rows.{Rows}
 use Rattle.mj_counted.specs.Names.{key_of}
 use Rattle.mj_counted.specs.Rows.{entry}
 use Rattle.mj_chain.specs.declared.desk.Desk.{Desk}
 use Rattle.mj_chain.specs.declared.desk.Line.{Line}
-use Rattle.mj_chain.specs.declared.desk.Line.TheVariants.{Requests, Waiting, Busy}
+use Rattle.mj_chain.specs.declared.desk.Line.TheVariants.{Waiting, Busy}
 use Rattle.mj_chain.specs.Links.{ends_of}
 use Rattle.mj_chain.specs.Seats.{Seat, found, seat_key}
 use Rattle.mj_hall.specs.declared.kept.Queued.{Queued}

@@ -1,5 +1,5 @@
 -- What a hall stands for: the flat lists of its rows, in the order in which they came.
-use Rattle.std.specs.Prelude.{◌≡◌, ℕ, nat_lt, Bool, true, false, ◌&&◌, List, [], ◌∷◌, map}
+use Rattle.std.specs.Prelude.{ℕ, nat_lt, Bool, true, ◌&&◌, List, [], ◌∷◌, map}
 use Rattle.std.specs.List.{list_all}
 use Rattle.mj_chain.specs.Seats.{Seat}
 use Rattle.mj_queue.specs.declared.request.Request.{Request}

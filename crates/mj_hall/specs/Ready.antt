@@ -1,5 +1,5 @@
 -- Which desks have a pair: a worker that waits there and a request. Each stands in an order by the label of its first request.
-use Rattle.std.specs.Prelude.{◌≡◌, ℕ, Bool, true, false, not, ◌&&◌, List, [], ◌∷◌, Option, None, Some}
+use Rattle.std.specs.Prelude.{◌≡◌, ℕ, false, not, ◌&&◌, List, [], ◌∷◌, Option, None, Some}
 use Rattle.mj_counted.specs.Pairs.{has_pair, is_pair}
 use Rattle.mj_chain.specs.Seats.{Seat, is_key}
 use Rattle.mj_hall.specs.declared.kept.Queued.{Queued}

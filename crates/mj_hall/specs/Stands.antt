@@ -1,5 +1,5 @@
 -- The rows, orders and numbers of a hall hold these two lists.
-use Rattle.std.specs.Prelude.{◌≡◌, ℕ, ◌+◌, ◌-◌, ◌^◌, ◌<◌, Bool, true, false, List, map, None}
+use Rattle.std.specs.Prelude.{◌≡◌, ◌+◌, ◌-◌, ◌^◌, ◌<◌, true, false, List, map, None}
 use Rattle.mj_chain.specs.Seats.{Seat}
 use Rattle.mj_queue.specs.Settling.{queued, queued_weight}
 use Rattle.mj_hall.specs.declared.hall.Hall.TheInside.{Inside}

@@ -12,7 +12,12 @@ use mj_queue::Origin;
 use std::sync::ledger::Ledger;
 
 /// The last request of this origin.
-pub fn last_of<L: Ledger>(clients: &Order, tickets: &Order, origin: Origin, steps: &mut Steps<L>) -> Option<usize>
+pub fn last_of<L: Ledger>(
+    clients: &Order,
+    tickets: &Order,
+    origin: Origin,
+    steps: &mut Steps<L>,
+) -> Option<usize>
     ensures last { (requests : Rows (Node Queued)) (es : List (Seat Queued)) → Asking requests clients.now.pairs tickets.now.pairs es → result ≡ last_from seat_key None (of_origin origin es) }
     ensures cost { steps.new ≡ steps.old + 2 }
 {
@@ -23,7 +28,14 @@ pub fn last_of<L: Ledger>(clients: &Order, tickets: &Order, origin: Origin, step
 }
 
 /// A request with this link leaves the chain of its origin.
-fn origin_back<L: Ledger>(clients: &mut Order, tickets: &mut Order, origin: Origin, gone: Link, key: usize, steps: &mut Steps<L>)
+fn origin_back<L: Ledger>(
+    clients: &mut Order,
+    tickets: &mut Order,
+    origin: Origin,
+    gone: Link,
+    key: usize,
+    steps: &mut Steps<L>,
+)
     requires last { is_no_key gone.next ≡ true → (j : ℕ) → has_origin clients.old.pairs tickets.old.pairs j origin ≡ (key == j) }
     ensures clients { (p : ℕ × ℕ) → has_pair p clients.new.pairs ≡ (if same_origin (Origin.Client p.0) origin && is_no_key gone.next then is_key p.1 gone.prev else has_pair p clients.old.pairs) }
     ensures tickets { (p : ℕ × ℕ) → has_pair p tickets.new.pairs ≡ (if same_origin (Origin.Ticket p.0) origin && is_no_key gone.next then is_key p.1 gone.prev else has_pair p tickets.old.pairs) }
@@ -38,7 +50,14 @@ fn origin_back<L: Ledger>(clients: &mut Order, tickets: &mut Order, origin: Orig
 }
 
 /// A request comes last into the chain of its origin, behind `last`.
-fn origin_on<L: Ledger>(clients: &mut Order, tickets: &mut Order, origin: Origin, last: Option<usize>, key: usize, steps: &mut Steps<L>)
+fn origin_on<L: Ledger>(
+    clients: &mut Order,
+    tickets: &mut Order,
+    origin: Origin,
+    last: Option<usize>,
+    key: usize,
+    steps: &mut Steps<L>,
+)
     requires last { (j : ℕ) → has_origin clients.old.pairs tickets.old.pairs j origin ≡ is_key j last }
     requires clients_room { 0 < clients.old.spare }
     requires tickets_room { 0 < tickets.old.spare }
@@ -55,7 +74,13 @@ fn origin_on<L: Ledger>(clients: &mut Order, tickets: &mut Order, origin: Origin
 }
 
 /// Takes out the request of this key, which is there.
-pub fn request_out<L: Ledger>(requests: &mut Rows<Node<Queued>>, clients: &mut Order, tickets: &mut Order, key: usize, steps: &mut Steps<L>) -> Option<Node<Queued>>
+pub fn request_out<L: Ledger>(
+    requests: &mut Rows<Node<Queued>>,
+    clients: &mut Order,
+    tickets: &mut Order,
+    key: usize,
+    steps: &mut Steps<L>,
+) -> Option<Node<Queued>>
     requires stands { (es : List (Seat Queued)) × (x : Queued) × Asking requests.old clients.old.pairs tickets.old.pairs es × (found key es ≡ Some x) }
     ensures value { result ≡ entry requests.old key }
     ensures asking { (es : List (Seat Queued)) (x : Queued) → Asking requests.old clients.old.pairs tickets.old.pairs es → found key es ≡ Some x → Asking requests.new clients.new.pairs tickets.new.pairs (take_out seat_key key es) }
@@ -65,12 +90,27 @@ pub fn request_out<L: Ledger>(requests: &mut Rows<Node<Queued>>, clients: &mut O
     ensures cost { steps.new ≤ steps.old + 9 }
 {
     let node = take_node(requests, key, steps)?;
-    origin_back(clients, tickets, node.value.request.origin, node.origin, key, steps);
+    origin_back(
+        clients,
+        tickets,
+        node.value.request.origin,
+        node.origin,
+        key,
+        steps,
+    );
     Some(node)
 }
 
 /// Puts a request last, behind the last of all and the last of its service.
-pub fn request_in<L: Ledger>(requests: &mut Rows<Node<Queued>>, clients: &mut Order, tickets: &mut Order, value: Queued, all: Option<usize>, service: Option<usize>, steps: &mut Steps<L>) -> usize
+pub fn request_in<L: Ledger>(
+    requests: &mut Rows<Node<Queued>>,
+    clients: &mut Order,
+    tickets: &mut Order,
+    value: Queued,
+    all: Option<usize>,
+    service: Option<usize>,
+    steps: &mut Steps<L>,
+) -> usize
     requires stands { (es : List (Seat Queued)) × Asking requests.old clients.old.pairs tickets.old.pairs es }
     requires rows_room { 0 < spare requests.old }
     requires clients_room { 0 < clients.old.spare }
@@ -86,9 +126,18 @@ pub fn request_in<L: Ledger>(requests: &mut Rows<Node<Queued>>, clients: &mut Or
     let last = last_of(clients, tickets, origin, steps);
     let node = Node {
         value,
-        all: Link { prev: all, next: None },
-        service: Link { prev: service, next: None },
-        origin: Link { prev: last, next: None },
+        all: Link {
+            prev: all,
+            next: None,
+        },
+        service: Link {
+            prev: service,
+            next: None,
+        },
+        origin: Link {
+            prev: last,
+            next: None,
+        },
     };
     let key = put_node(requests, node, steps);
     origin_on(clients, tickets, origin, last, key, steps);

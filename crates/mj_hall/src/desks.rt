@@ -29,7 +29,12 @@ fn new_desk() -> Desk
 }
 
 /// Opens a desk for a service that has none.
-fn open_new<L: Ledger>(desks: &mut Rows<Desk>, names: &mut Index, name: &Name, steps: &mut Steps<L>) -> Result<usize, NoMemory>
+fn open_new<L: Ledger>(
+    desks: &mut Rows<Desk>,
+    names: &mut Index,
+    name: &Name,
+    steps: &mut Steps<L>,
+) -> Result<usize, NoMemory>
     requires { key_of names.old name.now ≡ None }
     ensures desks { (es : List (Seat Queued)) (ws : List (Seat Worker)) → are_distinct seat_key es ≡ true → are_distinct seat_key ws ≡ true → Desks desks.old names.old es ws → Desks desks.new names.new es ws }
     ensures named { IfOk result (λ desk. key_of names.new name.now ≡ Some desk) }
@@ -46,7 +51,12 @@ fn open_new<L: Ledger>(desks: &mut Rows<Desk>, names: &mut Index, name: &Name, s
 }
 
 /// The desk of this service, which is opened where there is none.
-pub fn open<L: Ledger>(desks: &mut Rows<Desk>, names: &mut Index, name: &Name, steps: &mut Steps<L>) -> Result<usize, NoMemory>
+pub fn open<L: Ledger>(
+    desks: &mut Rows<Desk>,
+    names: &mut Index,
+    name: &Name,
+    steps: &mut Steps<L>,
+) -> Result<usize, NoMemory>
     ensures desks { (es : List (Seat Queued)) (ws : List (Seat Worker)) → are_distinct seat_key es ≡ true → are_distinct seat_key ws ≡ true → Desks desks.old names.old es ws → Desks desks.new names.new es ws }
     ensures named { IfOk result (λ desk. key_of names.new name.now ≡ Some desk) }
     ensures cost { steps.new ≤ steps.old + 4 }
@@ -58,7 +68,13 @@ pub fn open<L: Ledger>(desks: &mut Rows<Desk>, names: &mut Index, name: &Name, s
 }
 
 /// Shuts the desk of this service, where nobody asks for it or serves it.
-pub fn shut<L: Ledger>(desks: &mut Rows<Desk>, names: &mut Index, name: &Name, key: usize, steps: &mut Steps<L>)
+pub fn shut<L: Ledger>(
+    desks: &mut Rows<Desk>,
+    names: &mut Index,
+    name: &Name,
+    key: usize,
+    steps: &mut Steps<L>,
+)
     requires { key_of names.old name.now ≡ Some key }
     ensures desks { (es : List (Seat Queued)) (ws : List (Seat Worker)) → are_distinct seat_key es ≡ true → are_distinct seat_key ws ≡ true → Desks desks.old names.old es ws → Desks desks.new names.new es ws }
     ensures cost { steps.new ≤ steps.old + 3 }

@@ -25,7 +25,17 @@ fn last_asked<L: Ledger>(desks: &Rows<Desk>, key: usize, steps: &mut Steps<L>) -
 }
 
 /// A request leaves the rows, its desk and the list of all.
-pub fn request_leaves<L: Ledger>(requests: &mut Rows<Node<Queued>>, clients: &mut Order, tickets: &mut Order, desks: &mut Rows<Desk>, first: &mut usize, last: &mut usize, count: &mut usize, key: usize, steps: &mut Steps<L>) -> Option<Queued>
+pub fn request_leaves<L: Ledger>(
+    requests: &mut Rows<Node<Queued>>,
+    clients: &mut Order,
+    tickets: &mut Order,
+    desks: &mut Rows<Desk>,
+    first: &mut usize,
+    last: &mut usize,
+    count: &mut usize,
+    key: usize,
+    steps: &mut Steps<L>,
+) -> Option<Queued>
     requires stands { (es : List (Seat Queued)) × (x : Queued) × Asking requests.old clients.old.pairs tickets.old.pairs es × (found key es ≡ Some x) × EndsAre first.old last.old count.old es }
     ensures value { (es : List (Seat Queued)) (x : Queued) → Asking requests.old clients.old.pairs tickets.old.pairs es → found key es ≡ Some x → result ≡ Some x }
     ensures asking { (es : List (Seat Queued)) (x : Queued) → Asking requests.old clients.old.pairs tickets.old.pairs es → found key es ≡ Some x → Asking requests.new clients.new.pairs tickets.new.pairs (take_out seat_key key es) }
@@ -43,7 +53,17 @@ pub fn request_leaves<L: Ledger>(requests: &mut Rows<Node<Queued>>, clients: &mu
 }
 
 /// A request comes into the rows, to its desk and to the list of all.
-pub fn request_comes<L: Ledger>(requests: &mut Rows<Node<Queued>>, clients: &mut Order, tickets: &mut Order, desks: &mut Rows<Desk>, first: &mut usize, last: &mut usize, count: &mut usize, value: Queued, steps: &mut Steps<L>) -> usize
+pub fn request_comes<L: Ledger>(
+    requests: &mut Rows<Node<Queued>>,
+    clients: &mut Order,
+    tickets: &mut Order,
+    desks: &mut Rows<Desk>,
+    first: &mut usize,
+    last: &mut usize,
+    count: &mut usize,
+    value: Queued,
+    steps: &mut Steps<L>,
+) -> usize
     requires stands { (names : Index) × (es : List (Seat Queued)) × (ws : List (Seat Worker)) × Asking requests.old clients.old.pairs tickets.old.pairs es × Desks desks.old names es ws × EndsAre first.old last.old count.old es × (key_of names value.request.service ≡ Some value.desk) }
     requires fits { count.old + 1 < 2 ^ 64 }
     requires rows_room { 0 < spare requests.old }

@@ -14,7 +14,12 @@ use mj_counted::{Order, Rows, Steps};
 use std::sync::ledger::Ledger;
 
 /// The label of the first request at this desk, where a worker waits there too.
-fn label_of<L: Ledger>(desks: &Rows<Desk>, requests: &Rows<Node<Queued>>, key: usize, steps: &mut Steps<L>) -> Option<u64>
+fn label_of<L: Ledger>(
+    desks: &Rows<Desk>,
+    requests: &Rows<Node<Queued>>,
+    key: usize,
+    steps: &mut Steps<L>,
+) -> Option<u64>
     ensures label { (es : List (Seat Queued)) (ws : List (Seat Worker)) → are_distinct seat_key es ≡ true → RowsAre queued_classes requests.now es → entry desks.now key ≡ Some (desk_of key es ws) → pair_in es ws key ≡ option_map (λ label. (label, key)) result }
     ensures cost { steps.new ≤ steps.old + 2 }
 {
@@ -28,7 +33,11 @@ fn label_of<L: Ledger>(desks: &Rows<Desk>, requests: &Rows<Node<Queued>>, key: u
 }
 
 /// The first request at this desk and the first worker that waits there.
-pub fn firsts_of<L: Ledger>(desks: &Rows<Desk>, key: usize, steps: &mut Steps<L>) -> Option<(usize, usize)>
+pub fn firsts_of<L: Ledger>(
+    desks: &Rows<Desk>,
+    key: usize,
+    steps: &mut Steps<L>,
+) -> Option<(usize, usize)>
     ensures firsts { (es later : List (Seat Queued)) (ws others : List (Seat Worker)) (e : Seat Queued) (w : Seat Worker) → entry desks.now key ≡ Some (desk_of key es ws) → of_desk key es ≡ e ∷ later → workers_at false key ws ≡ w ∷ others → result ≡ Some (e.key, w.key) }
     ensures cost { steps.new ≡ steps.old + 1 }
 {
@@ -42,7 +51,13 @@ pub fn firsts_of<L: Ledger>(desks: &Rows<Desk>, key: usize, steps: &mut Steps<L>
 }
 
 /// Hides this desk from the order of pairs.
-pub fn unmark<L: Ledger>(pairs: &mut Order, desks: &Rows<Desk>, requests: &Rows<Node<Queued>>, key: usize, steps: &mut Steps<L>)
+pub fn unmark<L: Ledger>(
+    pairs: &mut Order,
+    desks: &Rows<Desk>,
+    requests: &Rows<Node<Queued>>,
+    key: usize,
+    steps: &mut Steps<L>,
+)
     ensures ready { (es : List (Seat Queued)) (ws : List (Seat Worker)) → are_distinct seat_key es ≡ true → RowsAre queued_classes requests.now es → entry desks.now key ≡ Some (desk_of key es ws) → ReadyBut None pairs.old.pairs es ws → ReadyBut (Some key) pairs.new.pairs es ws }
     ensures room { pairs.old.spare ≤ pairs.new.spare }
     ensures cost { steps.new ≤ steps.old + 3 }
@@ -53,7 +68,13 @@ pub fn unmark<L: Ledger>(pairs: &mut Order, desks: &Rows<Desk>, requests: &Rows<
 }
 
 /// Shows this desk in the order of pairs, where it has one.
-pub fn mark<L: Ledger>(pairs: &mut Order, desks: &Rows<Desk>, requests: &Rows<Node<Queued>>, key: usize, steps: &mut Steps<L>)
+pub fn mark<L: Ledger>(
+    pairs: &mut Order,
+    desks: &Rows<Desk>,
+    requests: &Rows<Node<Queued>>,
+    key: usize,
+    steps: &mut Steps<L>,
+)
     requires ready { (es : List (Seat Queued)) × (ws : List (Seat Worker)) × ReadyBut (Some key) pairs.old.pairs es ws }
     requires room { 0 < pairs.old.spare }
     ensures ready { (es : List (Seat Queued)) (ws : List (Seat Worker)) → are_distinct seat_key es ≡ true → RowsAre queued_classes requests.now es → entry desks.now key ≡ Some (desk_of key es ws) → ReadyBut (Some key) pairs.old.pairs es ws → ReadyBut None pairs.new.pairs es ws }

@@ -18,7 +18,12 @@ pub fn worker_of<L: Ledger>(conns: &Order, number: u64, steps: &mut Steps<L>) ->
 }
 
 /// Takes out the worker of this key, which is there.
-pub fn worker_out<L: Ledger>(workers: &mut Rows<Node<Worker>>, conns: &mut Order, key: usize, steps: &mut Steps<L>) -> Option<Node<Worker>>
+pub fn worker_out<L: Ledger>(
+    workers: &mut Rows<Node<Worker>>,
+    conns: &mut Order,
+    key: usize,
+    steps: &mut Steps<L>,
+) -> Option<Node<Worker>>
     ensures value { result ≡ entry workers.old key }
     ensures serving { (ws : List (Seat Worker)) (w : Worker) → Serving workers.old conns.old.pairs ws → found key ws ≡ Some w → Serving workers.new conns.new.pairs (take_out seat_key key ws) }
     ensures none { (ws : List (Seat Worker)) (w : Worker) → Serving workers.old conns.old.pairs ws → found key ws ≡ Some w → NoneOf w.waiter.worker (take_out seat_key key ws) }
@@ -32,7 +37,14 @@ pub fn worker_out<L: Ledger>(workers: &mut Rows<Node<Worker>>, conns: &mut Order
 }
 
 /// Puts a worker last, behind the last of all of its kind and the last at its desk. None has its connection.
-pub fn worker_in<L: Ledger>(workers: &mut Rows<Node<Worker>>, conns: &mut Order, value: Worker, all: Option<usize>, service: Option<usize>, steps: &mut Steps<L>) -> usize
+pub fn worker_in<L: Ledger>(
+    workers: &mut Rows<Node<Worker>>,
+    conns: &mut Order,
+    value: Worker,
+    all: Option<usize>,
+    service: Option<usize>,
+    steps: &mut Steps<L>,
+) -> usize
     requires stands { (ws : List (Seat Worker)) × Serving workers.old conns.old.pairs ws × NoneOf value.waiter.worker ws }
     requires rows_room { 0 < spare workers.old }
     requires conns_room { 0 < conns.old.spare }
@@ -45,9 +57,18 @@ pub fn worker_in<L: Ledger>(workers: &mut Rows<Node<Worker>>, conns: &mut Order,
     let number = value.waiter.worker;
     let node = Node {
         value,
-        all: Link { prev: all, next: None },
-        service: Link { prev: service, next: None },
-        origin: Link { prev: None, next: None },
+        all: Link {
+            prev: all,
+            next: None,
+        },
+        service: Link {
+            prev: service,
+            next: None,
+        },
+        origin: Link {
+            prev: None,
+            next: None,
+        },
     };
     let key = put_node(workers, node, steps);
     conns.insert((number, key), steps).unwrap();

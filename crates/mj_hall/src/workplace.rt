@@ -22,7 +22,12 @@ fn worker_line(busy: bool) -> Line
 }
 
 /// The last worker of a desk's line.
-fn last_served<L: Ledger>(desks: &Rows<Desk>, key: usize, busy: bool, steps: &mut Steps<L>) -> Option<usize>
+fn last_served<L: Ledger>(
+    desks: &Rows<Desk>,
+    key: usize,
+    busy: bool,
+    steps: &mut Steps<L>,
+) -> Option<usize>
     ensures last { (names : Index) (es : List (Seat Queued)) (ws : List (Seat Worker)) (q : List ℕ) → Desks desks.now names es ws → key_of names q ≡ Some key → result ≡ last_from seat_key None (workers_at busy key ws) }
     ensures cost { steps.new ≡ steps.old + 1 }
 {
@@ -34,7 +39,16 @@ fn last_served<L: Ledger>(desks: &Rows<Desk>, key: usize, busy: bool, steps: &mu
 }
 
 /// A worker leaves the rows, its desk and the list of those of its kind, whose ends are given.
-pub fn worker_leaves<L: Ledger>(workers: &mut Rows<Node<Worker>>, conns: &mut Order, desks: &mut Rows<Desk>, first: &mut usize, last: &mut usize, count: &mut usize, key: usize, steps: &mut Steps<L>) -> Option<Worker>
+pub fn worker_leaves<L: Ledger>(
+    workers: &mut Rows<Node<Worker>>,
+    conns: &mut Order,
+    desks: &mut Rows<Desk>,
+    first: &mut usize,
+    last: &mut usize,
+    count: &mut usize,
+    key: usize,
+    steps: &mut Steps<L>,
+) -> Option<Worker>
     requires stands { (ws : List (Seat Worker)) × (w : Worker) × Serving workers.old conns.old.pairs ws × (found key ws ≡ Some w) × EndsAre first.old last.old count.old (workers_of w.busy ws) }
     ensures value { (ws : List (Seat Worker)) (w : Worker) → Serving workers.old conns.old.pairs ws → found key ws ≡ Some w → result ≡ Some w }
     ensures serving { (ws : List (Seat Worker)) (w : Worker) → Serving workers.old conns.old.pairs ws → found key ws ≡ Some w → Serving workers.new conns.new.pairs (take_out seat_key key ws) }
@@ -48,12 +62,27 @@ pub fn worker_leaves<L: Ledger>(workers: &mut Rows<Node<Worker>>, conns: &mut Or
 {
     let node = worker_out(workers, conns, key, steps)?;
     ends_without(first, last, count, node.all);
-    leave(desks, node.value.desk, worker_line(node.value.busy), node.service, steps);
+    leave(
+        desks,
+        node.value.desk,
+        worker_line(node.value.busy),
+        node.service,
+        steps,
+    );
     Some(node.value)
 }
 
 /// A worker comes into the rows, to its desk and to the list of those of its kind, whose ends are given.
-pub fn worker_comes<L: Ledger>(workers: &mut Rows<Node<Worker>>, conns: &mut Order, desks: &mut Rows<Desk>, first: &mut usize, last: &mut usize, count: &mut usize, value: Worker, steps: &mut Steps<L>) -> usize
+pub fn worker_comes<L: Ledger>(
+    workers: &mut Rows<Node<Worker>>,
+    conns: &mut Order,
+    desks: &mut Rows<Desk>,
+    first: &mut usize,
+    last: &mut usize,
+    count: &mut usize,
+    value: Worker,
+    steps: &mut Steps<L>,
+) -> usize
     requires stands { (names : Index) × (es : List (Seat Queued)) × (ws : List (Seat Worker)) × Serving workers.old conns.old.pairs ws × NoneOf value.waiter.worker ws × Desks desks.old names es ws × EndsAre first.old last.old count.old (workers_of value.busy ws) × (key_of names value.waiter.service ≡ Some value.desk) }
     requires fits { count.old + 1 < 2 ^ 64 }
     requires rows_room { 0 < spare workers.old }

@@ -1,4 +1,4 @@
-use Rattle.std.proofs.Common.{◌≡◌, ◌∙◌, sym, ap}
+use Rattle.std.proofs.Common.{◌∙◌, sym, ap}
 use Rattle.mj_chain.specs.Seats.{is_key}
 use Rattle.mj_hall.proofs.AskingLemmas.{absent_key, asking_in, origin_last}
 use Rattle.mj_hall.proofs.asking.request_in.Goals as goal

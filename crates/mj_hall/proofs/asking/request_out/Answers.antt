@@ -1,4 +1,4 @@
-use Rattle.std.proofs.Common.{◌≡◌, ◌∙◌, sym}
+use Rattle.std.proofs.Common.{◌∙◌, sym}
 use Rattle.mj_hall.proofs.AskingLemmas.{asking_out, leaving_last}
 use Rattle.mj_hall.proofs.asking.request_out.Goals as goal
 

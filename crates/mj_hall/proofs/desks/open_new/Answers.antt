@@ -1,4 +1,4 @@
-use Rattle.std.proofs.Common.{◌≡◌, ◌∙◌, ◌==◌, ap, cond, Some}
+use Rattle.std.proofs.Common.{◌∙◌, ◌==◌, ap, cond, Some}
 use Rattle.mj_counted.specs.Rows.{entry}
 use Rattle.mj_chain.specs.declared.desk.Desk.{Desk}
 use Rattle.mj_hall.proofs.OpenLemmas.{desks-open}

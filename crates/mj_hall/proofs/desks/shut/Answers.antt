@@ -1,4 +1,4 @@
-use Rattle.std.proofs.Common.{◌≡◌, ◌∙◌, ap, sym, subst}
+use Rattle.std.proofs.Common.{◌∙◌, sym}
 use Rattle.mj_hall.proofs.OpenLemmas.{desks-shut}
 use Rattle.mj_hall.proofs.desks.shut.Goals as goal
 

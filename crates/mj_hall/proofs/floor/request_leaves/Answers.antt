@@ -1,4 +1,4 @@
-use Rattle.std.proofs.Common.{◌≡◌, ◌∙◌, sym}
+use Rattle.std.proofs.Common.{◌∙◌, sym}
 use Rattle.mj_hall.proofs.FloorLemmas.{request_desks, request_ends}
 use Rattle.mj_hall.proofs.floor.request_leaves.Goals as goal
 

@@ -1,4 +1,4 @@
-use Rattle.std.proofs.Common.{sym, ◌∙◌, ◌≡◌}
+use Rattle.std.proofs.Common.{sym, ◌∙◌}
 use Rattle.std.proofs.lemmas.Result.{IfOk-at_ok}
 use Rattle.mj_hall.proofs.LastLemmas.{back_none, back_some, is_none}
 use Rattle.mj_hall.proofs.lasts.step_back.Goals as goal

@@ -1,4 +1,3 @@
-use Rattle.std.proofs.Common.{◌≡◌, ℕ}
 use Rattle.std.proofs.lemmas.Result.{IfOk-at_ok}
 use Rattle.mj_hall.proofs.LastLemmas.{stepped_on}
 use Rattle.mj_hall.proofs.lasts.step_on.Goals as goal

@@ -1,4 +1,4 @@
-use Rattle.std.proofs.Common.{◌≡◌, ◌∙◌, ap, sym, Some, None}
+use Rattle.std.proofs.Common.{◌∙◌, ap, sym, Some, None}
 use Rattle.mj_chain.specs.declared.desk.Desk.{Desk}
 use Rattle.mj_hall.proofs.ReadyLemmas.{desk_is, some_pair}
 use Rattle.mj_counted.specs.Rows.{entry}

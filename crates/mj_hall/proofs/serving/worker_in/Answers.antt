@@ -1,4 +1,3 @@
-use Rattle.std.proofs.Common.{◌≡◌}
 use Rattle.std.proofs.lemmas.Result.{IfOk-at_ok}
 use Rattle.mj_hall.proofs.ServingLemmas.{absent_key, serving_in}
 use Rattle.mj_hall.proofs.serving.worker_in.Goals as goal

@@ -1,4 +1,4 @@
-use Rattle.std.proofs.Common.{◌≡◌, ◌∙◌, sym}
+use Rattle.std.proofs.Common.{◌∙◌, sym}
 use Rattle.mj_hall.proofs.ServingLemmas.{none_left, serving_out}
 use Rattle.mj_hall.proofs.serving.worker_out.Goals as goal
 

@@ -1,4 +1,4 @@
-use Rattle.std.proofs.Common.{◌≡◌, subst}
+use Rattle.std.proofs.Common.{subst}
 use Rattle.mj_chain.specs.declared.desk.Line.{Line}
 use Rattle.mj_hall.proofs.DeskLemmas.{LineJoined, desks-worker_in}
 use Rattle.mj_hall.proofs.FloorLemmas.{other_kind_in, worker_ends_in}

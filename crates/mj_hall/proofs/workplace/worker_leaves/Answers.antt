@@ -1,4 +1,4 @@
-use Rattle.std.proofs.Common.{◌≡◌, ◌∙◌, sym, subst}
+use Rattle.std.proofs.Common.{◌∙◌, sym, subst}
 use Rattle.mj_chain.specs.declared.desk.Line.{Line}
 use Rattle.mj_hall.proofs.DeskLemmas.{LineLeft}
 use Rattle.mj_hall.proofs.FloorLemmas.{other_kind, some_worker, worker_desks, worker_ends}

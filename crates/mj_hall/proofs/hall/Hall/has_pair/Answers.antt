@@ -1,4 +1,4 @@
-use Rattle.std.proofs.Common.{◌≡◌, ◌∙◌, ap, is_some}
+use Rattle.std.proofs.Common.{◌∙◌, ap, is_some}
 use Rattle.mj_queue.specs.Settling.{pair}
 use Rattle.mj_hall.specs.HallValue.{HallValue}
 use Rattle.mj_hall.proofs.HallLemmas.{has_pair_is, value_is}

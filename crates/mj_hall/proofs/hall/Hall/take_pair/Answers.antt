@@ -1,20 +1,17 @@
-use Rattle.std.proofs.Common.{◌≡◌, ℕ, Bool, ◌+◌, ◌≤◌, ◌<◌, ◌∙◌, ◌∷◌, [], ◌++◌, List, Option, Some, None, true, false, not, cond, refl, sym, ap, subst, arith, rules}
+use Rattle.std.proofs.Common.{◌≡◌, ℕ, Bool, ◌+◌, ◌≤◌, ◌<◌, ◌∙◌, ◌∷◌, [], ◌++◌, List, Option, Some, true, false, not, cond, refl, sym, ap, subst, arith, rules}
 use Rattle.std.specs.Option.{IsSome}
 use Rattle.mj_base.specs.KeptWeight.{weight_of}
 use Rattle.mj_counted.specs.Names.{key_of}
-use Rattle.mj_counted.specs.Pairs.{StandsAt, has_pair}
 use Rattle.mj_chain.specs.Seats.{Seat, found, seat_key, take_out}
 use Rattle.mj_queue.specs.HallSteps.{Takes}
 use Rattle.mj_queue.specs.declared.request.Request.{Request}
 use Rattle.mj_queue.specs.Settling.{pair, is_of_client, queued, queued_weight}
 use Rattle.mj_hall.specs.declared.kept.Queued.{Queued}
 use Rattle.mj_hall.specs.declared.kept.Worker.{Worker}
-use Rattle.mj_hall.specs.Asking.{Asking}
 use Rattle.mj_hall.specs.Ends.{EndsAre}
-use Rattle.mj_hall.specs.Floor.{requests_of, waiters_of}
+use Rattle.mj_hall.specs.Floor.{requests_of}
 use Rattle.mj_hall.specs.HallValue.{HallValue}
-use Rattle.mj_hall.specs.Serving.{NoneOf, Serving, workers_of}
-use Rattle.mj_hall.specs.Stands.{Stands}
+use Rattle.mj_hall.specs.Serving.{NoneOf, workers_of}
 use Rattle.mj_hall.proofs.FloorLemmas.{some_worker}
 use Rattle.mj_hall.proofs.HallLemmas.{first_is_pair, no_pair_is, pair_of, value_is}
 use Rattle.mj_hall.proofs.ReadyLemmas.{hidden_some}
@@ -26,7 +23,6 @@ pub returns-in_err-label-clause-takes : goal.returns-in_err-label-clause-takes
 returns-in_err-label-clause-takes g c =
     subst (λ (o : Option (ℕ × Request)). Takes c.args.self.now.state c.args.self.now.state o) (sym c.from_residual.ensures)
     (no_pair_is c.self.inside c.self.invariant.0 c.self.invariant.1 c.args.self.now c.self.invariant.2 c.self.view_is c.in_err-label.ensures.empty, refl)
-
 
 pub unwrap-row-requires : goal.unwrap-row-requires
 unwrap-row-requires g c =
@@ -90,8 +86,7 @@ worker_comes-requires-clause-stands g c =
     let busy : c.busied.result ≡ record t.at.worker.value { busy = true } = c.busied.ensures ∙ ap (λ (w : Worker). record w { busy = true }) worker in
     let busy_list : workers_of true ws ≡ workers_of true c.self.invariant.1 = subst (λ (b : Bool). workers_of (not b) ws ≡ workers_of (not b) c.self.invariant.1) t.idle (c.worker_leaves.ensures.others c.self.invariant.1 t.at.worker.value c.self.invariant.2.serving served) in
     let none = c.worker_leaves.ensures.none c.self.invariant.1 t.at.worker.value c.self.invariant.2.serving served in
-    let busy_ends : EndsAre c.self.inside.busy_first c.self.inside.busy_last c.self.inside.busy_count (workers_of true ws) = subst (λ (xs : List (Seat Worker)). EndsAre c.self.inside.busy_first c.self.inside.busy_last c.self.inside.busy_count xs) (sym busy_list) c.self.invariant.2.busy in
-    (
+    let busy_ends : EndsAre c.self.inside.busy_first c.self.inside.busy_last c.self.inside.busy_count (workers_of true ws) = subst (λ (xs : List (Seat Worker)). EndsAre c.self.inside.busy_first c.self.inside.busy_last c.self.inside.busy_count xs) (sym busy_list) c.self.invariant.2.busy in (
       c.self.inside.names,
       es,
       ws,
@@ -169,8 +164,7 @@ invariant_of-self g c =
     let serves = busy_now.len in
     let waited = c.self.invariant.2.waiting.len in
     let served_many = c.self.invariant.2.busy.len in
-    let bound = c.self.invariant.2.fits in
-    (
+    let bound = c.self.invariant.2.fits in (
       es,
       later,
       record {
@@ -208,11 +202,10 @@ returns-clause-takes g c =
     let request : c.unwrap-queued.result ≡ t.at.request.value = same_some c.request_leaves.result c.unwrap-queued.result t.at.request.value c.unwrap-queued.ensures (c.request_leaves.ensures.value c.self.invariant.0 t.at.request.value c.self.invariant.2.asking asked) in
     let worker : c.unwrap-worker.result ≡ t.at.worker.value = same_some c.worker_leaves.result c.unwrap-worker.result t.at.worker.value c.unwrap-worker.ensures (c.worker_leaves.ensures.value c.self.invariant.1 t.at.worker.value c.self.invariant.2.serving served) in
     let old = value_is c.self.inside c.self.invariant.0 c.self.invariant.1 c.args.self.now c.self.invariant.2 c.self.view_is in
-    let busy : c.busied.result ≡ record t.at.worker.value { busy = true } = c.busied.ensures ∙ ap (λ (w : Worker). record w { busy = true }) worker in
-    (
+    let busy : c.busied.result ≡ record t.at.worker.value { busy = true } = c.busied.ensures ∙ ap (λ (w : Worker). record w { busy = true }) worker in (
       pair_of c.self.invariant.0 c.self.invariant.1 (t.at.request, t.at.worker),
       ap (λ (v : HallValue). pair v.state.waiting v.state.requests) (sym old) ∙ first_is_pair c.self.inside c.self.invariant.0 c.self.invariant.1 c.in_ok-label.label c.in_ok-label.desk c.self.invariant.2 c.in_ok-label.ensures.stands t.at,
       ap (λ (w : Worker). answered w c.unwrap-queued.result) worker ∙ ap (answered t.at.worker.value) request,
       ap (λ (v : HallValue). v.state) (seen_is _ _ _ (invariant_of-self g c).2)
-      ∙ state_is c.self.inside.limits c.self.inside.next c.self.invariant.0 c.self.invariant.1 t.at.request t.at.worker c.unwrap-row.result.0 c.unwrap-row.result.1 c.worker_comes.result c.busied.result c.args.self.now (ap (λ (k : ℕ × ℕ). k.0) keys) (ap (λ (k : ℕ × ℕ). k.1) keys) busy c.self.invariant.2.serving.distinct served t.idle old,
+          ∙ state_is c.self.inside.limits c.self.inside.next c.self.invariant.0 c.self.invariant.1 t.at.request t.at.worker c.unwrap-row.result.0 c.unwrap-row.result.1 c.worker_comes.result c.busied.result c.args.self.now (ap (λ (k : ℕ × ℕ). k.0) keys) (ap (λ (k : ℕ × ℕ). k.1) keys) busy c.self.invariant.2.serving.distinct served t.idle old,
     )
