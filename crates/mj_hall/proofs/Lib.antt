@@ -10,3 +10,4 @@ pub mod TakeLemmas
 pub mod WalkLemmas
 pub mod HallLemmas
 pub mod TakenLemmas
+pub mod HasLemmas

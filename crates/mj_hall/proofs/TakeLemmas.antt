@@ -39,7 +39,7 @@ with_rest y ys = Some (y, ys)
 
 -- what is found in a list, and in a part of it
 module _ {T : Type 0} where
-  own_found : (s : Seat T) (ss : List (Seat T)) → found s.key (s ∷ ss) ≡ Some s.value
+  pub own_found : (s : Seat T) (ss : List (Seat T)) → found s.key (s ∷ ss) ≡ Some s.value
   own_found s ss = rw (own_number s.key) refl
 
   apart_from : (s : Seat T) (ss : List (Seat T)) (k : ℕ) (v : T) → are_distinct seat_key (s ∷ ss) ≡ true → found k ss ≡ Some v → (s.key == k) ≡ false
@@ -51,7 +51,7 @@ module _ {T : Type 0} where
           wrong _ (sym there ∙ (distinct_parts seat_key s ss d).0)
       of false g = g
 
-  later_found : (s : Seat T) (ss : List (Seat T)) (k : ℕ) (v : T) → are_distinct seat_key (s ∷ ss) ≡ true → found k ss ≡ Some v → found k (s ∷ ss) ≡ Some v
+  pub later_found : (s : Seat T) (ss : List (Seat T)) (k : ℕ) (v : T) → are_distinct seat_key (s ∷ ss) ≡ true → found k ss ≡ Some v → found k (s ∷ ss) ≡ Some v
   later_found s ss k v d e = rw (apart_from s ss k v d e) e
 
   all_at : (q : T → Bool) (k : ℕ) (v : T) (xs : List (Seat T)) → list_all (λ s. q s.value) xs ≡ true → found k xs ≡ Some v → q v ≡ true
@@ -98,7 +98,7 @@ module _ {T : Type 0} where
       of true i h later = first (s.key == k) refl i h later
       of false i h later = rest (later h)
 
-  filter-filter : (q r : T → Bool) (xs : List (Seat T)) → filter (λ s. q s.value) (filter (λ s. r s.value) xs) ≡ filter (λ s. r s.value && q s.value) xs
+  pub filter-filter : (q r : T → Bool) (xs : List (Seat T)) → filter (λ s. q s.value) (filter (λ s. r s.value) xs) ≡ filter (λ s. r s.value && q s.value) xs
   filter-filter q r [] = refl
   filter-filter q r (s ∷ ss) = of (r s.value) (q s.value) refl (filter-filter q r ss)
     where
@@ -220,7 +220,7 @@ module _ (desks : Rows Desk) (names : Index) (es : List (Seat Queued)) (ws : Lis
       let there : key_of names q ≡ Some d = subst (λ (r : List ℕ). key_of names r ≡ Some d) ((bytes_decides p q).0 g) e in
       cc
 
-  names_decide : (p q : List ℕ) (m d : ℕ) → key_of names p ≡ Some m → key_of names q ≡ Some d → bytes_eq p q ≡ (m == d)
+  pub names_decide : (p q : List ℕ) (m d : ℕ) → key_of names p ≡ Some m → key_of names q ≡ Some d → bytes_eq p q ≡ (m == d)
   names_decide p q m d e f = of (m == d) refl (bytes_eq p q) refl
     where
       of : (b : Bool) → (m == d) ≡ b → (c : Bool) → bytes_eq p q ≡ c → c ≡ b

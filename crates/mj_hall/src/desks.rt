@@ -1,7 +1,9 @@
-ghost use Rattle.std.specs.Prelude.{◌≡◌, ◌+◌, ◌≤◌, ◌<◌, ℕ, List, None, Some, IfOk, true};
+ghost use Rattle.std.specs.Prelude.{◌≡◌, ◌+◌, ◌≤◌, ◌<◌, ℕ, List, None, Some, IfOk, true, false, ◌||◌, is_some};
 ghost use Rattle.mj_counted.specs.Names.{key_of};
-ghost use Rattle.mj_chain.specs.Seats.{Seat, are_distinct, seat_key};
-ghost use Rattle.mj_hall.specs.Desks.{Desks};
+ghost use Rattle.mj_chain.specs.Seats.{Seat, are_distinct, head_of, seat_key};
+ghost use Rattle.mj_counted.specs.Rows.{entry};
+ghost use Rattle.mj_hall.specs.Desks.{Desks, desk_of};
+ghost use Rattle.mj_hall.specs.Serving.{workers_at};
 
 use crate::kept::{Queued, Worker};
 use mj_base::{Name, NoMemory};
@@ -87,4 +89,15 @@ pub fn shut<L: Ledger>(
     }
     names.remove(name, steps);
     desks.take(key, steps);
+}
+
+/// Whether a worker waits at this desk or is busy there.
+pub fn is_staffed<L: Ledger>(desks: &Rows<Desk>, key: usize, steps: &mut Steps<L>) -> bool
+    ensures value { (es : List (Seat Queued)) (ws : List (Seat Worker)) → entry desks.now key ≡ Some (desk_of key es ws) → result ≡ (is_some (head_of seat_key (workers_at false key ws)) || is_some (head_of seat_key (workers_at true key ws))) }
+    ensures cost { steps.new ≡ steps.old + 1 }
+{
+    match desks.get(key, steps) {
+        Some(desk) => desk.waiting.first.is_some() || desk.busy.first.is_some(),
+        None => false,
+    }
 }

@@ -1,13 +1,14 @@
 ghost use Rattle.std.specs.Prelude.{◌≡◌, ◌+◌, ◌-◌, ◌≤◌, ◌^◌, [], is_some};
 ghost use Rattle.mj_queue.specs.HallSteps.{Takes};
-ghost use Rattle.mj_queue.specs.Settling.{pair};
+ghost use Rattle.mj_queue.specs.Settling.{is_served, pair, queued};
 
 use crate::counts::{busied, count_out};
+use crate::desks::is_staffed;
 use crate::floor::request_leaves;
 use crate::kept::{Queued, Worker};
 use crate::ready::{firsts_of, mark};
 use crate::workplace::{worker_comes, worker_leaves};
-use mj_base::Limits;
+use mj_base::{Limits, Name};
 use mj_chain::{Desk, Node};
 use mj_counted::{Index, Order, Rows, Steps};
 use mj_queue::Request;
@@ -137,5 +138,22 @@ impl Hall {
         mark(&mut self.pairs, &self.desks, &self.requests, desk, steps);
         count_out(&mut self.queued, &mut self.weight, &queued.request);
         Some((number, queued.request))
+    }
+    /// Whether a worker waits for this service or is busy with it.
+    pub fn has_worker<L: Ledger>(&self, name: &Name, steps: &mut Steps<L>) -> bool
+        ensures value { result ≡ is_served name.now self.now.state.waiting self.now.state.busy }
+        ensures cost { steps.new ≤ steps.old + 2 }
+    {
+        match self.names.get(name, steps) {
+            Some(desk) => is_staffed(&self.desks, desk, steps),
+            None => false,
+        }
+    }
+
+    /// The number of queued client requests.
+    pub fn queued(&self) -> u64
+        ensures { result ≡ queued self.now.state.requests }
+    {
+        self.queued
     }
 }
