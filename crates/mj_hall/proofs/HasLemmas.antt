@@ -36,7 +36,7 @@ module _ (h : Inside) (es : List (Seat Queued)) (ws : List (Seat Worker)) (stand
   kind_distinct : (busy : Bool) → are_distinct seat_key (workers_of busy ws) ≡ true
   kind_distinct busy = distinct-filter seat_key (λ s. same_bool busy s.value.busy) ws stands.serving.distinct
 
-  served_at : (d : ℕ) → key_of h.names name ≡ Some d → (busy : Bool) → list_any (serves name) (waiters_of (workers_of busy ws)) ≡ is_some (head_of seat_key (workers_at busy d ws))
+  pub served_at : (d : ℕ) → key_of h.names name ≡ Some d → (busy : Bool) → list_any (serves name) (waiters_of (workers_of busy ws)) ≡ is_some (head_of seat_key (workers_at busy d ws))
   served_at d named busy =
       any_is (λ (w : Worker). w.waiter) (serves name) (λ (w : Worker). w.desk == d) (workers_of busy ws) (kind_distinct busy)
       (λ k v e.
@@ -47,7 +47,7 @@ module _ (h : Inside) (es : List (Seat Queued)) (ws : List (Seat Worker)) (stand
   pub is_served_at : (d : ℕ) → key_of h.names name ≡ Some d → is_served name (waiters_of (workers_of false ws)) (waiters_of (workers_of true ws)) ≡ (is_some (head_of seat_key (workers_at false d ws)) || is_some (head_of seat_key (workers_at true d ws)))
   is_served_at d named = ap (λ (b : Bool). b || list_any (serves name) (waiters_of (workers_of true ws))) (served_at d named false) ∙ ap (λ (b : Bool). is_some (head_of seat_key (workers_at false d ws)) || b) (served_at d named true)
 
-  unserved : key_of h.names name ≡ None → (busy : Bool) → list_any (serves name) (waiters_of (workers_of busy ws)) ≡ false
+  pub unserved : key_of h.names name ≡ None → (busy : Bool) → list_any (serves name) (waiters_of (workers_of busy ws)) ≡ false
   unserved none busy =
       none_any (λ (w : Worker). w.waiter) (serves name) (workers_of busy ws) (kind_distinct busy)
       (λ k v e. other v (stands.desks.served k v (filter-found (λ (w : Worker). same_bool busy w.busy) k v ws stands.serving.distinct e).there) (bytes_eq v.waiter.service name) refl)
@@ -60,3 +60,10 @@ module _ (h : Inside) (es : List (Seat Queued)) (ws : List (Seat Worker)) (stand
 
   pub is_unserved : key_of h.names name ≡ None → is_served name (waiters_of (workers_of false ws)) (waiters_of (workers_of true ws)) ≡ false
   is_unserved none = ap (λ (b : Bool). b || list_any (serves name) (waiters_of (workers_of true ws))) (unserved none false) ∙ unserved none true
+
+  pub awaited_is : (awaited : Bool) → ((d : ℕ) → key_of h.names name ≡ Some d → awaited ≡ is_some (head_of seat_key (workers_at false d ws))) → (key_of h.names name ≡ None → awaited ≡ false) → awaited ≡ list_any (serves name) (waiters_of (workers_of false ws))
+  awaited_is awaited some none = of (key_of h.names name) refl
+    where
+      of : (o : Option ℕ) → key_of h.names name ≡ o → awaited ≡ list_any (serves name) (waiters_of (workers_of false ws))
+      of None e = none e ∙ sym (unserved e false)
+      of (Some d) e = some d e ∙ sym (served_at d e false)

@@ -11,3 +11,4 @@ pub mod WalkLemmas
 pub mod HallLemmas
 pub mod TakenLemmas
 pub mod HasLemmas
+pub mod AskLemmas

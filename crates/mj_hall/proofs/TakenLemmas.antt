@@ -81,10 +81,10 @@ sum-out f k x (s ∷ ss) d e = of (s.key == k) refl e (λ h. sum-out f k x ss ap
         let first = sum_by-cons f s.value.request (requests_of (take_out seat_key k ss)) in
         omega arith
 
-abbrev client_weight : Request → ℕ
+abbrev pub client_weight : Request → ℕ
 client_weight r = cond (is_of_client r.origin) (weight_of r.body) 0
 
-weight_is : (rs : List Request) → queued_weight rs ≡ sum_by client_weight rs
+pub weight_is : (rs : List Request) → queued_weight rs ≡ sum_by client_weight rs
 weight_is [] = refl
 weight_is (r ∷ rs) = of (is_of_client r.origin) (weight_is rs) ∙ sym (sum_by-cons client_weight r rs)
   where

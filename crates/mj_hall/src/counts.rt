@@ -1,9 +1,9 @@
-ghost use Rattle.std.specs.Prelude.{◌≡◌, ◌+◌, ◌-◌, ◌^◌, ◌≤◌, ◌<◌, nat_le, true, if◌then◌else◌, SomeIff};
+ghost use Rattle.std.specs.Prelude.{◌≡◌, ◌+◌, ◌-◌, ◌^◌, ◌≤◌, ◌<◌, nat_le, nat_lt, not, ◌&&◌, ◌||◌, true, if◌then◌else◌, SomeIff};
 ghost use Rattle.mj_base.specs.KeptWeight.{weight_of};
 ghost use Rattle.mj_queue.specs.Settling;
 
 use crate::kept::Worker;
-use mj_base::Frames;
+use mj_base::{Frames, Limits};
 use mj_queue::{Origin, Request};
 
 /// Whether a client asks.
@@ -71,4 +71,14 @@ pub fn count_in(queued: &mut u64, weight: &mut u64, request: &Request)
         *queued += 1;
         *weight = total + request.body.octets() + 32 * frames;
     }
+}
+
+/// Whether a client asks, no worker waits, and too many are queued or they would weigh too much with this one.
+pub fn is_past(limits: &Limits, queued: u64, weight: u64, awaited: bool, request: &Request) -> bool
+    ensures { result ≡ (Settling.is_of_client request.now.origin && (not awaited && (nat_le limits.now.queued queued || nat_lt limits.now.queued_weight (weight + weight_of request.now.body)))) }
+{
+    if !is_of_client(request.origin) || awaited {
+        return false;
+    }
+    queued >= limits.queued || !weighs_at_most(weight, &request.body, limits.queued_weight)
 }

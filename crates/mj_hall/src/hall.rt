@@ -1,17 +1,19 @@
 ghost use Rattle.std.specs.Prelude.{◌≡◌, ◌+◌, ◌-◌, ◌≤◌, ◌^◌, [], is_some};
-ghost use Rattle.mj_queue.specs.HallSteps.{Takes};
+ghost use Rattle.mj_queue.specs.HallSteps.{Asked, Takes};
+ghost use Rattle.mj_queue.specs.Settling;
 ghost use Rattle.mj_queue.specs.Settling.{is_served, pair, queued};
 
-use crate::counts::{busied, count_out};
+use crate::counts::{busied, count_in, count_out, is_past};
 use crate::desks::is_staffed;
-use crate::floor::request_leaves;
+use crate::floor::{request_comes, request_leaves};
 use crate::kept::{Queued, Worker};
-use crate::ready::{firsts_of, mark};
+use crate::ready::{firsts_of, mark, unmark};
+use crate::room::{can_count, is_awaited, room_for_request};
 use crate::workplace::{worker_comes, worker_leaves};
 use mj_base::{Limits, Name};
 use mj_chain::{Desk, Node};
 use mj_counted::{Index, Order, Rows, Steps};
-use mj_queue::Request;
+use mj_queue::{AskFault, Request};
 use std::alloc::Global;
 use std::marker::Model;
 use std::sync::ledger::Ledger;
@@ -155,5 +157,68 @@ impl Hall {
         ensures { result ≡ queued self.now.state.requests }
     {
         self.queued
+    }
+    /// Puts the request last, or gives it back with what stands against it.
+    pub fn ask<L: Ledger>(&mut self, request: Request, steps: &mut Steps<L>) -> Result<(), AskFault>
+        ensures asked { Asked self.old.state self.new.state request result }
+        ensures labels { self.old.labels ≤ self.new.labels + 1 }
+        ensures cost { steps.new ≤ steps.old + 40 }
+    {
+        if self.is_too_much(&request, steps) {
+            return Err(AskFault::QueueFull(request));
+        }
+        if !can_count(
+            self.next,
+            self.request_count,
+            self.queued,
+            self.weight,
+            &request,
+        ) {
+            return Err(AskFault::NoMemory(request));
+        }
+        let desk = match room_for_request(
+            &mut self.requests,
+            &mut self.clients,
+            &mut self.tickets,
+            &mut self.pairs,
+            &mut self.desks,
+            &mut self.names,
+            &request.service,
+            steps,
+        ) {
+            Ok(desk) => desk,
+            Err(_) => return Err(AskFault::NoMemory(request)),
+        };
+        unmark(&mut self.pairs, &self.desks, &self.requests, desk, steps);
+        count_in(&mut self.queued, &mut self.weight, &request);
+        let queued = Queued {
+            request,
+            label: self.next,
+            desk,
+        };
+        request_comes(
+            &mut self.requests,
+            &mut self.clients,
+            &mut self.tickets,
+            &mut self.desks,
+            &mut self.request_first,
+            &mut self.request_last,
+            &mut self.request_count,
+            queued,
+            steps,
+        );
+        mark(&mut self.pairs, &self.desks, &self.requests, desk, steps);
+        self.next += 1;
+        Ok(())
+    }
+
+    /// Whether this is a client request that no worker waits for, and too many are queued or they would weigh
+    /// too much with it.
+    fn is_too_much<L: Ledger>(&self, request: &Request, steps: &mut Steps<L>) -> bool
+        ensures value { result ≡ Settling.is_too_much self.now.state.limits self.now.state.waiting self.now.state.requests request.now }
+        ensures cost { steps.new ≤ steps.old + 2 }
+    {
+        let awaited = is_awaited(&self.desks, &self.names, &request.service, steps);
+        is_past(&self.limits, self.queued, self.weight, awaited, request)
     }
 }

@@ -16,7 +16,7 @@ mod serving;
 mod workplace;
 
 pub use asking::{last_of, request_in, request_out};
-pub use counts::{busied, count_in, count_out, is_of_client, weighs_at_most};
+pub use counts::{busied, count_in, count_out, is_of_client, is_past, weighs_at_most};
 pub use desks::{open, shut};
 pub use ends_kept::{ends, ends_with, ends_without};
 pub use floor::{request_comes, request_leaves};
