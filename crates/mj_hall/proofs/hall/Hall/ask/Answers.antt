@@ -1,10 +1,9 @@
-use Rattle.std.proofs.Common.{◌≡◌, ℕ, ◌+◌, ◌==◌, ◌∙◌, ◌∷◌, [], ◌++◌, List, Bool, Some, None, cond, refl, sym, ap, subst}
+use Rattle.std.proofs.Common.{◌≡◌, ℕ, ◌+◌, ◌==◌, ◌∙◌, ◌∷◌, [], ◌++◌, List, Some, None, cond, refl, sym, ap, subst}
 use Rattle.mj_base.specs.KeptWeight.{weight_of}
 use Rattle.mj_counted.specs.Names.{key_of}
 use Rattle.mj_chain.specs.Seats.{Seat}
 use Rattle.mj_queue.specs.HallState.{HallState}
 use Rattle.mj_queue.specs.declared.request.Request.{Request}
-use Rattle.mj_queue.specs.Settling
 use Rattle.mj_queue.specs.Settling.{is_of_client}
 use Rattle.mj_hall.specs.declared.kept.Queued.{Queued}
 use Rattle.mj_hall.specs.HallValue.{HallValue}

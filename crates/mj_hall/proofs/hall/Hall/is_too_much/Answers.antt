@@ -1,4 +1,4 @@
-use Rattle.std.proofs.Common.{◌≡◌, ℕ, ◌+◌, ◌∙◌, ◌&&◌, ◌||◌, Bool, false, not, nat_le, nat_lt, sym, ap}
+use Rattle.std.proofs.Common.{ℕ, ◌+◌, ◌∙◌, ◌&&◌, ◌||◌, Bool, false, not, nat_le, nat_lt, ap}
 use Rattle.mj_base.specs.KeptWeight.{weight_of}
 use Rattle.mj_queue.specs.Settling
 use Rattle.mj_queue.specs.Settling.{is_of_client, queued, queued_weight}
