@@ -1,0 +1,4 @@
+pub mod Seats
+pub mod Links
+pub mod Nodes
+pub mod Desks

@@ -1,0 +1,14 @@
+pub mod LastLemmas
+pub mod AskingLemmas
+pub mod ServingLemmas
+pub mod EndLemmas
+pub mod DeskLemmas
+pub mod OpenLemmas
+pub mod ReadyLemmas
+pub mod FloorLemmas
+pub mod TakeLemmas
+pub mod WalkLemmas
+pub mod HallLemmas
+pub mod TakenLemmas
+pub mod HasLemmas
+pub mod AskLemmas

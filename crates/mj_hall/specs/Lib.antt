@@ -1,0 +1,9 @@
+pub mod Asking
+pub mod Serving
+pub mod Ends
+pub mod Desks
+pub mod Ready
+pub mod Floor
+pub mod Walk
+pub mod HallValue
+pub mod Stands
