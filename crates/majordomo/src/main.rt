@@ -1,19 +1,36 @@
-//! The program: hands its words, the standard streams and the disk of its place to the tool, and exits with its status.
+//! The program: hands its words, the standard streams, and the disk, the link or the sockets that they name to the call that
+//! they are for, and exits with its status.
 #![tactic(auto)]
+
+mod peering;
+mod serving;
 
 use mj_base::{NoMemory, Octets, StdSink, StdSource};
 use mj_disk::{Disk, FileDisk, MemoryDisk};
+use mj_host::broker_words;
 use mj_prog::tool;
-use std::alloc::Global;
-use std::io::{ErrorKind, Read, Write};
+use peering::{is_peer, run_peer};
+use serving::serve_words;
+use std::io::ErrorKind;
 use std::process::ExitCode;
 use std::{env, io};
 
 fn main(rt: HostRuntime) -> ExitCode {
-    match program_words(&rt) {
-        Ok(words) => ExitCode::from(run(&rt, &words)),
-        Err(_) => ExitCode::from(4),
+    let alloc = rt.alloc();
+    let Ok(words) = program_words(&rt) else {
+        return ExitCode::from(4);
+    };
+    if let Some(numbers) = broker_words(words.as_slice()) {
+        let mut sink = StdSink::new(io::writer(&rt));
+        let errors = rt.stderr();
+        return ExitCode::from(serve_words(rt, alloc, &words, numbers, &mut sink, errors));
     }
+    if is_peer(&words) {
+        let mut source = StdSource::new(rt.reader());
+        let mut sink = StdSink::new(io::writer(&rt));
+        return ExitCode::from(run_peer(rt, alloc, &words, &mut source, &mut sink));
+    }
+    ExitCode::from(run_over_disk(&rt, &words))
 }
 
 /// The words behind the program's name. Words that aren't UTF-8 are no words of the program, as an empty list is.
@@ -27,7 +44,7 @@ fn program_words(rt: &HostRuntime) -> io::Result<Vec<String>> {
 
 /// Runs over the file that the first word names, which isn't opened before the words are read; without one, or where it is
 /// `-`, over an empty disk in memory.
-fn run(rt: &HostRuntime, words: &Vec<String>) -> u8 {
+fn run_over_disk(rt: &HostRuntime, words: &Vec<String>) -> u8 {
     match words.first() {
         Some(place) if place.as_str() != "-" => run_over_file(rt, words, place.as_str()),
         _ => run_over_memory(rt, words),

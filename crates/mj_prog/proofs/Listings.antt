@@ -93,10 +93,10 @@ listed-alike base commands index is =
 named-found : (test : Ticket Place → Bool) (ts : List (Ticket Place)) (t : Ticket Place) → AllByRecursion IsNamed ts → find test ts ≡ Some t → IsNamed t
 named-found test [] t all e = absurd (none-some t e)
 named-found test (u ∷ ts) t all e = by (λ rest. named-found test ts t all.1 rest) (test u) refl
-    where
-      by : (find test ts ≡ Some t → IsNamed t) → (b : Bool) → test u ≡ b → IsNamed t
-      by more true is = subst (λ (v : Ticket Place). IsNamed v) (same_Some u t (rw is at e)) all.0
-      by more false is = more (rw is at e)
+  where
+    by : (find test ts ≡ Some t → IsNamed t) → (b : Bool) → test u ≡ b → IsNamed t
+    by more true is = subst (λ (v : Ticket Place). IsNamed v) (same_Some u t (rw is at e)) all.0
+    by more false is = more (rw is at e)
 
 next-by : (n : ℕ) (index : Fold Place) (number : ℕ) (id service : List ℕ) (stored : Bool) → AreNumbered index → number ≡ number_of id
     → (o : Option (Ticket Place)) → open_above n index ≡ o → Some (id, service, stored) ≡ option_map listed_as o → Next n index number id service stored
@@ -158,14 +158,14 @@ module _ (index : Fold Place) (n number : ℕ) (id service : List ℕ) (stored :
 split : (low : ℕ) (ts : List (Ticket Place)) (high n : ℕ) → RisesTo low (map number_in ts) high → (rest : List (Ticket Place)) × (ts ≡ filter (λ t. leb t.number n) ts ++ rest)
 split low [] high n rise = ([], refl)
 split low (t ∷ ts) high n rise = by (split t.number ts high n rise.1) (leb t.number n) refl
-    where
-      by : (more : (rest : List (Ticket Place)) × (ts ≡ filter (λ u. leb u.number n) ts ++ rest)) → (b : Bool) → leb t.number n ≡ b → (rest : List (Ticket Place)) × (t ∷ ts ≡ filter (λ u. leb u.number n) (t ∷ ts) ++ rest)
-      by more true within =
-          (more.0, rw within (ap (λ (us : List (Ticket Place)). t ∷ us) more.1))
-      by more false above =
-          let less : n < t.number = leb-false t.number n above in
-          let none = none_upto n ts (all_above n (map number_in ts) high (rises_weaker t.number n (map number_in ts) high (omega (arith, less)) rise.1)) in
-          (t ∷ ts, rw (above, none) refl)
+  where
+    by : (more : (rest : List (Ticket Place)) × (ts ≡ filter (λ u. leb u.number n) ts ++ rest)) → (b : Bool) → leb t.number n ≡ b → (rest : List (Ticket Place)) × (t ∷ ts ≡ filter (λ u. leb u.number n) (t ∷ ts) ++ rest)
+    by more true within =
+        (more.0, rw within (ap (λ (us : List (Ticket Place)). t ∷ us) more.1))
+    by more false above =
+        let less : n < t.number = leb-false t.number n above in
+        let none = none_upto n ts (all_above n (map number_in ts) high (rises_weaker t.number n (map number_in ts) high (omega (arith, less)) rise.1)) in
+        (t ∷ ts, rw (above, none) refl)
 
 module _ (index : Fold Place) (numbers : AreNumbered index) where
   abbrev done_behind : List ℕ
@@ -197,18 +197,18 @@ row-of-all index n count m k old mid new status all counted before prints =
     let lines = subst (λ (ts : List (Ticket Place)). Appends old mid (listing ts)) all before in
     let number : count ≡ min (length index.tickets) (2 ^ 64 - 1) = counted ∙ ap (λ (ts : List (Ticket Place)). min (length ts) (2 ^ 64 - 1)) all in
     by status (subst (λ (c : ℕ). PrintsDone c mid new m k status) number prints) lines
-    where
-      by : (s : Status) → PrintsDone (min (length index.tickets) (2 ^ 64 - 1)) mid new m k s → Appends old mid (listing index.tickets) → ListingRow (listed index.tickets) old new s
-      by statuses.Done p lines = Appends-trans old mid new (listing index.tickets) (done_line (min (length index.tickets) (2 ^ 64 - 1))) lines p
-      by statuses.Words p lines = p
-      by statuses.Line p lines = p
-      by statuses.Store p lines = p
-      by statuses.NoMemory p lines = front-of old new (listing index.tickets) (done_line (min (length index.tickets) (2 ^ 64 - 1))) (listed index.tickets) (Appends-kept old mid new (listing index.tickets) lines p) refl
-      by statuses.Disk p lines = tt
-      by statuses.Read p lines = p
-      by statuses.Write p lines =
-          front-behind old mid new (listing index.tickets) (done_line (min (length index.tickets) (2 ^ 64 - 1))) [] (listed index.tickets) lines p.1
-          (ap (λ (xs : List ℕ). listing index.tickets ++ xs) (sym (append-nil (done_line (min (length index.tickets) (2 ^ 64 - 1))))))
+  where
+    by : (s : Status) → PrintsDone (min (length index.tickets) (2 ^ 64 - 1)) mid new m k s → Appends old mid (listing index.tickets) → ListingRow (listed index.tickets) old new s
+    by statuses.Done p lines = Appends-trans old mid new (listing index.tickets) (done_line (min (length index.tickets) (2 ^ 64 - 1))) lines p
+    by statuses.Words p lines = p
+    by statuses.Line p lines = p
+    by statuses.Store p lines = p
+    by statuses.NoMemory p lines = front-of old new (listing index.tickets) (done_line (min (length index.tickets) (2 ^ 64 - 1))) (listed index.tickets) (Appends-kept old mid new (listing index.tickets) lines p) refl
+    by statuses.Disk p lines = tt
+    by statuses.Read p lines = p
+    by statuses.Write p lines =
+        front-behind old mid new (listing index.tickets) (done_line (min (length index.tickets) (2 ^ 64 - 1))) [] (listed index.tickets) lines p.1
+        (ap (λ (xs : List ℕ). listing index.tickets ++ xs) (sym (append-nil (done_line (min (length index.tickets) (2 ^ 64 - 1))))))
 
 -- ---- an opening
 

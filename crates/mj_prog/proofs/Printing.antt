@@ -1,8 +1,7 @@
 -- Laws of what is printed.
-use Rattle.std.proofs.Common.{◌≡◌, ◌<◌, ◌≤◌, ◌+◌, ℕ, List, [], ◌∷◌, ◌++◌, length, take, drop, Option, inl, inr, refl, sym, ap, ◌∙◌, subst, append_assoc, append-nil, arith, take-append-drop, get_or, drop-cons, suc}
-use Rattle.std.proofs.Math.Seq.{take-append_seam, take-append-add}
-use Rattle.std.proofs.lemmas.List.{length-take-le}
-use Rattle.std.specs.Io.KnownBytes.{Appends, Keeps}
+use Rattle.std.proofs.Common.{◌≡◌, ◌≤◌, ◌+◌, ℕ, List, [], ◌∷◌, ◌++◌, length, take, drop, Option, inl, inr, refl, sym, ap, ◌∙◌, subst, append_assoc, arith, take-append-drop}
+use Rattle.std.proofs.Math.Seq.{take-append_seam}
+use Rattle.std.specs.Io.KnownBytes.{Appends}
 use Rattle.std.proofs.KnownBytes.{Appends-trans, Appends-kept}
 use Rattle.mj_base.specs.Rising.{Rose}
 use Rattle.mj_base.specs.Writing.{AppendsFront, WriteAdds, WriteCause, WantCause}
@@ -32,9 +31,6 @@ front-behind old mid new bytes more rest text before front whole =
     ∙ ap (λ (xs : List ℕ). bytes ++ xs) (append_assoc (take n more) (drop n more) rest)
     ∙ sym (append_assoc bytes (take n more) (drop n more ++ rest)))
 
-rose-later : (a b c d : ℕ) → a ≤ b → Rose b c → c ≤ d → Rose a d
-rose-later a b c d first rose last = omega arith
-
 pub rose-from : (a b c : ℕ) → a ≤ b → Rose b c → Rose a c
 rose-from a b c first rose = omega arith
 
@@ -49,37 +45,3 @@ line-behind old mid new before m n bytes line writes.NoMemory first added adds c
     inr (inl (rose-from before.wants m.wants n.wants first.wants want, Appends-kept old mid new bytes added adds))
 line-behind old mid new before m n bytes line writes.Failed first added adds cause want =
     inr (inr (rose-from before.faults m.faults n.faults first.faults cause, (adds.0, Appends-trans old mid new bytes (take adds.0 line) added adds.1)))
-
--- the next of the outs stands behind those before it
-outs-next : (outs : List Out) (i : ℕ) (out : Out) → i < length outs → out ≡ get_or outs i out → outs ≡ take i outs ++ out ∷ drop (suc i) outs
-outs-next outs i out inside is =
-    sym (take-append-drop i outs) ∙ ap (λ (xs : List Out). take i outs ++ xs) (drop-cons outs i out inside ∙ ap (λ (o : Out). o ∷ drop (suc i) outs) (sym is))
-
-shown-next : (outs : List Out) (i : ℕ) (out : Out) → i < length outs → out ≡ get_or outs i out
-    → shown outs ≡ shown (take i outs) ++ (line_of_out out ++ shown (drop (suc i) outs))
-shown-next outs i out inside is = ap shown (outs-next outs i out inside is) ∙ shown-append (take i outs) (out ∷ drop (suc i) outs)
-
-take-next : (outs : List Out) (i : ℕ) (out : Out) → i < length outs → out ≡ get_or outs i out → take (i + 1) outs ≡ take i outs ++ out ∷ []
-take-next outs i out inside is =
-    let count : i + 1 ≡ length (take i outs) + 1 = omega (arith, length-take-le i outs (omega arith)) in
-    ap (take (i + 1)) (outs-next outs i out inside is) ∙ ap (λ (n : ℕ). take n (take i outs ++ out ∷ drop (suc i) outs)) count ∙ take-append-add (take i outs) (out ∷ drop (suc i) outs) 1
-
--- a line more of the outs is written
-pub shown-done : (old mid new : Option (List ℕ)) (outs : List Out) (i : ℕ) (out : Out) → i < length outs → out ≡ get_or outs i out
-    → Appends old mid (shown (take i outs)) → Appends mid new (line_of_out out) → Appends old new (shown (take (i + 1) outs))
-shown-done old mid new outs i out inside is before added =
-    subst (Appends old new) (sym (ap shown (take-next outs i out inside is) ∙ shown-append (take i outs) (out ∷ []) ∙ ap (λ (xs : List ℕ). shown (take i outs) ++ xs) (append-nil (line_of_out out))))
-    (Appends-trans old mid new (shown (take i outs)) (line_of_out out) before added)
-
--- nothing of it is written, for want of memory
-pub shown-kept : (old mid new : Option (List ℕ)) (outs : List Out) (i : ℕ)
-    → Appends old mid (shown (take i outs)) → Keeps mid new → AppendsFront old new (shown outs)
-shown-kept old mid new outs i before kept =
-    front-of old new (shown (take i outs)) (shown (drop i outs)) (shown outs) (Appends-kept old mid new (shown (take i outs)) before kept)
-    (ap shown (sym (take-append-drop i outs)) ∙ shown-append (take i outs) (drop i outs))
-
--- a front of it is written
-pub shown-failed : (old mid new : Option (List ℕ)) (outs : List Out) (i : ℕ) (out : Out) → i < length outs → out ≡ get_or outs i out
-    → Appends old mid (shown (take i outs)) → AppendsFront mid new (line_of_out out) → AppendsFront old new (shown outs)
-shown-failed old mid new outs i out inside is before front =
-    front-behind old mid new (shown (take i outs)) (line_of_out out) (shown (drop (suc i) outs)) (shown outs) before front (shown-next outs i out inside is)

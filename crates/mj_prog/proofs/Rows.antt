@@ -1,7 +1,7 @@
 -- Laws of the rows of the statuses.
-use Rattle.std.proofs.Common.{◌≡◌, ◌≤◌, ℕ, List, [], ◌++◌, length, take, Option, inl, inr, refl, sym, ap, ◌∙◌, subst, append-nil}
+use Rattle.std.proofs.Common.{◌≤◌, ℕ, List, [], ◌++◌, length, take, Option, inr, sym, ap, ◌∙◌, subst, append-nil}
 use Rattle.std.specs.Io.KnownBytes.{Appends}
-use Rattle.std.proofs.KnownBytes.{Appends-trans, Appends-kept, Appends-nil}
+use Rattle.std.proofs.KnownBytes.{Appends-trans, Appends-kept}
 use Rattle.mj_base.specs.Writing.{AppendsFront, WriteAdds, WriteCause}
 use Rattle.mj_base.specs.declared.event.Event.{Event}
 use Rattle.mj_base.specs.declared.sink.WriteAnswer.{WriteAnswer}
@@ -15,7 +15,7 @@ use Rattle.mj_prog.specs.Running.{FaultCounts, IsHalted}
 use Rattle.mj_prog.specs.Script.{script}
 use Rattle.mj_prog.specs.Shown.{done_line, store_line}
 use Rattle.mj_prog.specs.SinkCounts.{SinkCounts}
-use Rattle.mj_prog.specs.StatusRows.{IsRow, PrintsDone, Refuses, StatusCause, status_after}
+use Rattle.mj_prog.specs.StatusRows.{IsRow, PrintsDone, StatusCause, status_after}
 use Rattle.mj_prog.specs.declared.halt.Halt.TheVariants as halts
 use Rattle.mj_prog.specs.declared.halt.StoreFault.{StoreFault}
 use Rattle.mj_prog.specs.declared.status.Status.{Status}

@@ -1,5 +1,5 @@
 -- Laws of a run of the broker over a script.
-use Rattle.std.proofs.Common.{◌≡◌, ◌+◌, ◌≤◌, ◌-◌, ◌^◌, ℕ, Bool, true, false, List, [], ◌++◌, length, min, Option, Some, None, Result, Ok, Err, IfOk, IfErr, OnErr, OnOk, IsErr, IsErrOf, refl, sym, ap, ◌∙◌, subst, append-nil, arith}
+use Rattle.std.proofs.Common.{◌≡◌, ◌≤◌, ◌-◌, ◌^◌, ℕ, Bool, true, false, List, [], ◌++◌, length, min, Option, Result, Ok, Err, IfOk, IfErr, OnErr, OnOk, IsErr, IsErrOf, refl, sym, ap, ◌∙◌, subst, append-nil, arith}
 use Rattle.std.specs.Io.KnownBytes.{Appends}
 use Rattle.std.proofs.lemmas.List.{length-map}
 use Rattle.mj_base.specs.Rising.{Rose}
@@ -10,27 +10,23 @@ use Rattle.mj_base.specs.declared.event.Out.{Out}
 use Rattle.mj_base.specs.declared.limits.Limits.{Limits}
 use Rattle.mj_base.specs.declared.sink.WriteAnswer.{WriteAnswer}
 use Rattle.mj_base.specs.declared.sink.WriteAnswer.TheVariants as writes
-use Rattle.mj_disk.specs.DiskModel.{History, Turns}
 use Rattle.mj_disk.specs.declared.disk.Disk.{Ghosts}
-use Rattle.mj_journal.specs.Opening.{KeepsFile}
 use Rattle.mj_machine.specs.EventStep.{Noted}
 use Rattle.mj_machine.specs.MachineRun.{run_outs}
 use Rattle.mj_machine.specs.MachineState.{Machine, start_with}
 use Rattle.mj_machine.specs.StoreState.{Store, no_store, opened_store}
-use Rattle.mj_serve.specs.Faults.{IsFileFault, IsUnserved}
+use Rattle.mj_serve.specs.Faults.{IsFileFault}
 use Rattle.mj_serve.specs.Given.{Entry, events_in, outs_given}
 use Rattle.mj_serve.specs.RunLaws.{KeepsNothing, KeepsTickets}
 use Rattle.mj_serve.specs.Serving.{EndedEarly, EndedOver, EndedWithout, IsLeftAlone, Served, ServedOver, ServedWithout}
 use Rattle.mj_serve.specs.declared.fault.ServeFault.{ServeFault}
 use Rattle.mj_serve.specs.declared.fault.ServeFault.TheVariants as faults
 use Rattle.mj_serve.specs.declared.summary.Summary.{Summary}
-use Rattle.mj_store.specs.Opening.{NoneLawful, OpensLawfully}
-use Rattle.mj_store.specs.Standing.{IsTelling}
+use Rattle.mj_store.specs.Opening.{OpensLawfully}
 use Rattle.mj_tickets.specs.declared.command.TicketCmd.{TicketCmd}
-use Rattle.mj_prog.specs.Made.{Begins, IsMadeOf, IsRun, Made, printed}
-use Rattle.mj_prog.specs.ReplayTable.{IsCutOff, IsInput}
-use Rattle.mj_prog.specs.Running.{FaultCounts, HaltCause, IsFileRefused, IsHalted, IsUntaken, events_of, halt_at, halt_by, halt_for, is_stopped, served_fault}
-use Rattle.mj_prog.specs.Script.{script}
+use Rattle.mj_prog.specs.Made.{Begins, IsRun, Made, printed}
+use Rattle.mj_prog.specs.ReplayTable.{IsCutOff}
+use Rattle.mj_prog.specs.Running.{FaultCounts, HaltCause, IsHalted, IsUntaken, events_of, halt_at, halt_by, halt_for, is_stopped, served_fault}
 use Rattle.mj_prog.specs.Shown.{shown}
 use Rattle.mj_prog.specs.Standing.{HasPrinted, HasRead, Prints, ReadsTo, SinkSeen, SourceSeen, Stands}
 use Rattle.mj_prog.specs.declared.halt.Halt.{Halt}
@@ -177,8 +173,7 @@ module _ {P D : Type 0} (stand : P → P → List Event → List Entry → Type 
         let size : length (events_in run.happened) ≡ length run.happened = length-map run.happened (λ (e : Noted). e.event) in
         let few : length (events_in (run.happened ++ [])) ≤ 2 ^ 40 = omega (arith, stands.read.few) in
         let same : length (events_in (run.happened ++ [])) ≡ length (events_in run.happened) = ap length whole in
-        let count : summary.events ≡ length (events_in run.happened) = omega (arith, few-events summary.events (length run.happened) run.counts.events (omega (arith, few, same, size)), size) in
-        (
+        let count : summary.events ≡ length (events_in run.happened) = omega (arith, few-events summary.events (length run.happened) run.counts.events (omega (arith, few, same, size)), size) in (
           made-of run.happened [] true,
           record {
             alone = omega arith;
@@ -199,8 +194,7 @@ module _ {P D : Type 0} (stand : P → P → List Event → List Entry → Type 
         → (store.stored ≡ true → KeepsTickets standard_limits store.seed store.base store.commands run.happened) → (store.stored ≡ false → KeepsNothing standard_limits run.happened)
         → RanTo (start_with standard_limits store) 0 (halt_by (Err fault) stage wrote)
     run-err fault run tickets nothing =
-        let stands = seen (events_in (run.happened ++ run.last)) run.given run.ran.stands in
-        (
+        let stands = seen (events_in (run.happened ++ run.last)) run.given run.ran.stands in (
           made-of run.happened run.last false,
           record {
             alone = run.alone;

@@ -6,9 +6,8 @@ use Rattle.mj_base.specs.Writing.{AppendsFront}
 use Rattle.mj_disk.specs.DiskModel.{History}
 use Rattle.mj_disk.specs.declared.disk.Disk.{Ghosts}
 use Rattle.mj_machine.specs.MachineState.{Machine}
-use Rattle.mj_store.specs.Opening.{NoneLawful, OpensLawfully}
+use Rattle.mj_store.specs.Opening.{NoneLawful}
 use Rattle.mj_store.specs.Standing.{IsTelling}
-use Rattle.mj_tickets.specs.declared.command.TicketCmd.{TicketCmd}
 use Rattle.mj_prog.specs.Listing.{ListingRow, Lists, listed}
 use Rattle.mj_prog.specs.Made.{Begins, Made, Runs}
 use Rattle.mj_prog.specs.ReplayTable.{AnswersFor, AppendsLine}

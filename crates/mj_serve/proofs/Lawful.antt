@@ -1,9 +1,8 @@
 -- A file that is opened and not refused opens as a lawful list.
-use Rattle.std.proofs.Common.{◌≡◌, ◌⊎◌, ℕ, List, [], ◌∷◌, ◌++◌, Some, inl, inr, refl, subst, arith}
+use Rattle.std.proofs.Common.{◌≡◌, ℕ, List, [], Some, inl, inr, refl, subst, arith}
 use Rattle.mj_disk.specs.Content.{Content}
 use Rattle.mj_disk.specs.DiskModel.{History, Turns}
 use Rattle.mj_disk.specs.declared.disk.Disk.{Ghosts}
-use Rattle.mj_journal.specs.FileText.{IsShort, header_2}
 use Rattle.mj_store.specs.Commands.{IsLawful, StandsForCommands}
 use Rattle.mj_store.specs.Opening.{KeepsOrMakes, OpensLawfully}
 use Rattle.mj_store.specs.Standing.{IsHeld, IsTelling, Knows, StoreValue}

@@ -1,5 +1,5 @@
 -- Faults of the opening, as those of a run.
-use Rattle.std.proofs.Common.{◌≡◌, ℕ, List, Option, Some, None, Result, Ok, Err, IfErr, sym, ◌∙◌}
+use Rattle.std.proofs.Common.{◌≡◌, Option, Some, None, Result, Ok, Err, IfErr, sym, ◌∙◌}
 use Rattle.mj_disk.specs.DiskModel.{History}
 use Rattle.mj_journal.specs.declared.fault.OpenFault.{OpenFault}
 use Rattle.mj_journal.specs.declared.fault.OpenFault.TheVariants as opening

@@ -1,8 +1,7 @@
-use Rattle.std.proofs.Common.{[], inl, subst, refl, ◌∙◌, sym, arith}
+use Rattle.std.proofs.Common.{[], inl, subst, arith}
 use Rattle.std.proofs.KnownBytes.{Appends-nil}
 use Rattle.mj_prog.specs.declared.halt.Halt.{Halt}
-use Rattle.mj_prog.specs.Running.{IsHalted, HaltCause}
-use Rattle.mj_prog.proofs.Printing.{rose-until}
+use Rattle.mj_prog.specs.Running.{IsHalted}
 use Rattle.mj_prog.proofs.finish.finish.Goals as goal
 
 pub returns-in-Over-clause-row : goal.returns-in-Over-clause-row

@@ -3,7 +3,6 @@ use Rattle.mj_base.specs.Writing.{WriteAdds}
 use Rattle.mj_prog.specs.declared.status.Status.{Status}
 use Rattle.mj_prog.specs.StatusRows.{PrintsDone}
 use Rattle.mj_prog.proofs.Rows.{done-cause, prints-done, row-done, row-unprinted}
-use Rattle.mj_prog.proofs.finish.finish_well.Given as given
 use Rattle.mj_prog.proofs.finish.finish_well.Goals as goal
 
 pub returns-in-Ok-clause-prints : goal.returns-in-Ok-clause-prints

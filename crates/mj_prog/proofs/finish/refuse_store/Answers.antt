@@ -1,4 +1,4 @@
-use Rattle.std.proofs.Common.{List, ℕ, [], subst, inl, inr, refl, ◌∙◌, arith}
+use Rattle.std.proofs.Common.{List, ℕ, [], subst, inl, refl, ◌∙◌, arith}
 use Rattle.std.proofs.KnownBytes.{Appends-nil}
 use Rattle.mj_prog.specs.ReplayTable.{AppendsLine}
 use Rattle.mj_prog.specs.SinkCounts.{counted}
@@ -16,8 +16,8 @@ returns-in-Err-clause-row g c = λ lanes first made before from left written eve
 
 pub returns-in-Ok-clause-store : goal.returns-in-Ok-clause-store
 returns-in-Ok-clause-store g c = λ is.
-  subst (λ (line : List ℕ). AppendsLine (g.K.Sink.written c.args.out.now) (g.K.Sink.written c.complain.new.out) (counted (g.K.Sink.faults c.args.out.now) (g.K.Sink.wants c.args.out.now)) (counted (g.K.Sink.faults c.complain.new.out) (g.K.Sink.wants c.complain.new.out)) [] line)
-      (c.as_bytes.ensures.value ∙ c.in-Ok.ensures) (c.complain.ensures (g.K.Sink.written c.args.out.now) [] _ (record { faults = omega arith; wants = omega arith }) (Appends-nil (g.K.Sink.written c.args.out.now)))
+    subst (λ (line : List ℕ). AppendsLine (g.K.Sink.written c.args.out.now) (g.K.Sink.written c.complain.new.out) (counted (g.K.Sink.faults c.args.out.now) (g.K.Sink.wants c.args.out.now)) (counted (g.K.Sink.faults c.complain.new.out) (g.K.Sink.wants c.complain.new.out)) [] line)
+    (c.as_bytes.ensures.value ∙ c.in-Ok.ensures) (c.complain.ensures (g.K.Sink.written c.args.out.now) [] _ (record { faults = omega arith; wants = omega arith }) (Appends-nil (g.K.Sink.written c.args.out.now)))
 
 pub returns-in-Ok-clause-refuses : goal.returns-in-Ok-clause-refuses
 returns-in-Ok-clause-refuses g c = inl (refl, returns-in-Ok-clause-store g c refl)

@@ -1,8 +1,5 @@
-use Rattle.std.proofs.Common.{ℕ, List, [], ◌≡◌, ◌+◌, ◌≤◌, Result, Err, IfErr, IsErr, refl, sym, ap, subst, ◌∙◌}
+use Rattle.std.proofs.Common.{ℕ, List, ◌≡◌, ◌+◌, ◌≤◌, Result, IfErr, refl, sym, ap, subst, ◌∙◌}
 use Rattle.mj_base.specs.declared.event.Event.{Event}
-use Rattle.mj_disk.specs.DiskModel.{Turns}
-use Rattle.mj_journal.specs.Opening.{KeepsFile}
-use Rattle.mj_machine.specs.MachineState.{Machine}
 use Rattle.mj_serve.specs.Faults.{IsFileFault, IsUnserved}
 use Rattle.mj_serve.specs.Given.{Entry}
 use Rattle.mj_serve.specs.declared.fault.ServeFault.{ServeFault}
@@ -11,7 +8,7 @@ use Rattle.mj_store.specs.Opening.{NoneLawful}
 use Rattle.mj_store.specs.Standing.{IsTelling}
 use Rattle.mj_prog.specs.Made.{IsRun, Made}
 use Rattle.mj_prog.specs.Reads.{ReadsNoFurther}
-use Rattle.mj_prog.specs.Running.{HaltCause, IsHalted, IsUntaken, events_of, fault_counts, halt_by, served_fault}
+use Rattle.mj_prog.specs.Running.{HaltCause, IsHalted, IsUntaken, events_of, fault_counts, halt_by}
 use Rattle.mj_prog.specs.SinkCounts.{AreLater, counted}
 use Rattle.mj_prog.specs.Standing.{Stands, sink_seen, source_seen}
 use Rattle.mj_prog.specs.declared.halt.Halt.{Halt}

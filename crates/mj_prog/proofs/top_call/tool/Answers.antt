@@ -1,13 +1,11 @@
-use Rattle.std.proofs.Common.{map, string_bytes, refl, ap, inl, inr, ◌∙◌, ⊎_elim}
+use Rattle.std.proofs.Common.{map, string_bytes, ap, inl, inr, ◌∙◌, ⊎_elim}
 use Rattle.mj_prog.specs.Running.{fault_counts}
 use Rattle.mj_prog.specs.SinkCounts.{counted}
-use Rattle.mj_prog.specs.StatusRows.{IsFileRow, IsRow}
+use Rattle.mj_prog.specs.StatusRows.{IsRow}
 use Rattle.mj_prog.specs.Statuses.{code_of}
 use Rattle.mj_prog.specs.Words.{command_in, options_in}
-use Rattle.mj_prog.specs.declared.status.Status.{Status}
 use Rattle.mj_prog.specs.declared.status.Status.TheVariants as statuses
 use Rattle.mj_prog.proofs.StatusLaws.{answers, file-row, lists-all, lists-done, lists-front, row-of, status-is, store-row, unopened-code, write-cause, read-cause, disk-cause}
-use Rattle.mj_prog.proofs.top_call.tool.Given as given
 use Rattle.mj_prog.proofs.top_call.tool.Goals as goal
 
 pub returns-clause-words : goal.returns-clause-words
@@ -41,14 +39,14 @@ pub returns-clause-read : goal.returns-clause-read
 returns-clause-read g c = λ is. (
   read-cause (fault_counts (g.D.Disk.faults c.args.disk.now) (g.D.Disk.faults c.run_tool.new.disk) (g.S.Source.faults c.args.src.now) (g.S.Source.faults c.run_tool.new.src) (g.K.Sink.faults c.args.out.now)) (g.K.Sink.faults c.run_tool.new.out) c.run_tool.result (status-is c.run_tool.result statuses.Read c.code.result c.code.ensures is) c.run_tool.ensures.cause,
   (row-of g.D.Disk c.args.disk.now c.run_tool.new.disk (options_in (map string_bytes c.args.words.now)) (λ lanes first made s. IsRow lanes first made (g.S.Source.left c.args.src.now) (g.S.Source.left c.run_tool.new.src) (g.K.Sink.written c.args.out.now) (g.K.Sink.written c.run_tool.new.out) (counted (g.K.Sink.faults c.args.out.now) (g.K.Sink.wants c.args.out.now)) (counted (g.K.Sink.faults c.run_tool.new.out) (g.K.Sink.wants c.run_tool.new.out)) s)
-    c.run_tool.result statuses.Read c.run_tool.ensures.rows (status-is c.run_tool.result statuses.Read c.code.result c.code.ensures is)),
+      c.run_tool.result statuses.Read c.run_tool.ensures.rows (status-is c.run_tool.result statuses.Read c.code.result c.code.ensures is)),
 )
 
 pub returns-clause-write : goal.returns-clause-write
 returns-clause-write g c = λ is. (
   write-cause (fault_counts (g.D.Disk.faults c.args.disk.now) (g.D.Disk.faults c.run_tool.new.disk) (g.S.Source.faults c.args.src.now) (g.S.Source.faults c.run_tool.new.src) (g.K.Sink.faults c.args.out.now)) (g.K.Sink.faults c.run_tool.new.out) c.run_tool.result (status-is c.run_tool.result statuses.Write c.code.result c.code.ensures is) c.run_tool.ensures.cause,
   (row-of g.D.Disk c.args.disk.now c.run_tool.new.disk (options_in (map string_bytes c.args.words.now)) (λ lanes first made s. IsRow lanes first made (g.S.Source.left c.args.src.now) (g.S.Source.left c.run_tool.new.src) (g.K.Sink.written c.args.out.now) (g.K.Sink.written c.run_tool.new.out) (counted (g.K.Sink.faults c.args.out.now) (g.K.Sink.wants c.args.out.now)) (counted (g.K.Sink.faults c.run_tool.new.out) (g.K.Sink.wants c.run_tool.new.out)) s)
-    c.run_tool.result statuses.Write c.run_tool.ensures.rows (status-is c.run_tool.result statuses.Write c.code.result c.code.ensures is)),
+      c.run_tool.result statuses.Write c.run_tool.ensures.rows (status-is c.run_tool.result statuses.Write c.code.result c.code.ensures is)),
 )
 
 pub returns-clause-store : goal.returns-clause-store
@@ -76,7 +74,7 @@ returns-clause-opening g c = λ is.
     (disk-cause (fault_counts (g.D.Disk.faults c.args.disk.now) (g.D.Disk.faults c.run_tool.new.disk) (g.S.Source.faults c.args.src.now) (g.S.Source.faults c.run_tool.new.src) (g.K.Sink.faults c.args.out.now)) (g.K.Sink.faults c.run_tool.new.out) c.run_tool.result at c.run_tool.ensures.cause, c.run_tool.ensures.opening at, (file-row (g.D.Disk.told c.args.disk.now) (g.D.Disk.told c.run_tool.new.disk) (g.K.Sink.written c.args.out.now) (g.K.Sink.written c.run_tool.new.out) (counted (g.K.Sink.faults c.args.out.now) (g.K.Sink.wants c.args.out.now)) (counted (g.K.Sink.faults c.run_tool.new.out) (g.K.Sink.wants c.run_tool.new.out)) c.run_tool.result statuses.Disk c.run_tool.ensures.file at))
 
 pub returns-clause-complete : goal.returns-clause-complete
-returns-clause-complete g c = 
+returns-clause-complete g c =
     answers g.D.Disk c.args.disk.now c.run_tool.new.disk (command_in (map string_bytes c.args.words.now)) (fault_counts (g.D.Disk.faults c.args.disk.now) (g.D.Disk.faults c.run_tool.new.disk) (g.S.Source.faults c.args.src.now) (g.S.Source.faults c.run_tool.new.src) (g.K.Sink.faults c.args.out.now)) (g.K.Sink.faults c.run_tool.new.out) (g.S.Source.left c.args.src.now) (g.S.Source.left c.run_tool.new.src) (g.K.Sink.written c.args.out.now) (g.K.Sink.written c.run_tool.new.out)
     (counted (g.K.Sink.faults c.args.out.now) (g.K.Sink.wants c.args.out.now)) (counted (g.K.Sink.faults c.run_tool.new.out) (g.K.Sink.wants c.run_tool.new.out)) c.code.result c.run_tool.result c.run_tool.ensures.rows c.run_tool.ensures.cause
     (λ at telling. (c.run_tool.ensures.refused at telling).0) (λ at telling. ((file-row (g.D.Disk.told c.args.disk.now) (g.D.Disk.told c.run_tool.new.disk) (g.K.Sink.written c.args.out.now) (g.K.Sink.written c.run_tool.new.out) (counted (g.K.Sink.faults c.args.out.now) (g.K.Sink.wants c.args.out.now)) (counted (g.K.Sink.faults c.run_tool.new.out) (g.K.Sink.wants c.run_tool.new.out)) c.run_tool.result statuses.Store c.run_tool.ensures.file at) telling.0 telling.1).1.unlawful) c.code.ensures
@@ -90,4 +88,3 @@ returns-clause-lists_front g c = λ asks some. lists-front _ _ _ c.run_tool.resu
 
 pub returns-clause-lists_all : goal.returns-clause-lists_all
 returns-clause-lists_all g c = λ asks written synced. lists-all _ _ _ (fault_counts (g.D.Disk.faults c.args.disk.now) (g.D.Disk.faults c.run_tool.new.disk) (g.S.Source.faults c.args.src.now) (g.S.Source.faults c.run_tool.new.src) (g.K.Sink.faults c.args.out.now)) (g.K.Sink.faults c.run_tool.new.out) c.code.result c.run_tool.result (c.run_tool.ensures.lists asks) c.run_tool.ensures.cause c.code.ensures written synced
-

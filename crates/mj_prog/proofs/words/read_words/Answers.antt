@@ -1,4 +1,4 @@
-use Rattle.std.proofs.Common.{map, string_bytes, ◌∙◌, arith}
+use Rattle.std.proofs.Common.{map, string_bytes, arith}
 use Rattle.std.proofs.lemmas.List.{length-map}
 use Rattle.mj_prog.proofs.OptionLaws.{too-few-words}
 use Rattle.mj_prog.proofs.words.read_words.Goals as goal
