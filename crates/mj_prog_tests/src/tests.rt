@@ -134,7 +134,7 @@ const FAULTY_WORDS: &str = "\
 - show: stop|: 1 fault words
 - replay x: stop|: 1 fault words
 - replay --: stop|: 1 fault words
-tickets replay: stop|: 1 fault words
+--tickets replay: stop|: 1 fault words
 replay -: stop|: 1 fault words
 --lanes 2 - replay: stop|: 1 fault words
 - replay --lanes: stop|: 1 fault words

@@ -15,6 +15,9 @@ const READY: &[u8; 30] = b"\x04\x1c\x05READY\x0bSocket-Type\0\0\0\x06DEALER";
 
 const SUBMIT: &[u8; 37] = b"\x01\0\x01\x06MDPC01\x01\x0ftitanic.request\x01\x04echo\0\x02hi";
 
+/// The answer to a ticket's request that isn't kept.
+const REFUSED: &[u8; 32] = b"\x01\0\x01\x06MDPC01\x01\x0ftitanic.request\0\x03500";
+
 const FETCH: &[u8; 63] =
     b"\x01\0\x01\x06MDPC01\x01\x0dtitanic.reply\0\x24e56a5d40-28bd-8653-8000-000000000001";
 
@@ -194,5 +197,36 @@ fn a_run_goes_on_behind_a_failed_call(rt: HostRuntime) -> Result<(), Fail> {
             gate_in(alloc, ended.disk.image(alloc, k)?)?;
         }
     }
+    Ok(())
+}
+
+/// The last piece that was given.
+fn last_piece(ports: &Recorder) -> &[u8] {
+    for kept in ports.given.iter().rev() {
+        if let Out::Piece(_lane, piece) = &kept.out {
+            return piece.as_slice();
+        }
+    }
+    b""
+}
+
+#[test]
+fn a_store_of_one_ticket_refuses_a_second(rt: HostRuntime) -> Result<(), Fail> {
+    let alloc = rt.alloc();
+    let mut limits = Limits::standard();
+    limits.tickets = 1;
+    let mut events = Vec::new(alloc);
+    events.push(Event::Open(0))?;
+    events.push(hello(alloc, 0)?)?;
+    events.push(bytes(alloc, 0, SUBMIT)?)?;
+    events.push(bytes(alloc, 0, SUBMIT)?)?;
+    let Some(mut ports) = Recorder::new(alloc, 2, events) else {
+        return Err("too many events".into());
+    };
+    let mut disk = MemoryDisk::new(alloc, Octets::new(alloc), ROOM, Vec::new(alloc), None)?;
+    let answer = serve(alloc, &limits, [0; 32], true, &mut ports, &mut disk);
+    assert!(rt; answer.is_ok());
+    assert!(rt; last_piece(&ports) == REFUSED.as_slice());
+    assert!(rt; disk.as_slice().len() == 52);
     Ok(())
 }
