@@ -133,7 +133,11 @@ where
     });
     let hub = |ports: &mut NetPorts<R>| -> u8
         requires { AreNewPorts lanes ports.old × (lanes ≤ 64) }
-    { broker(alloc, words.as_slice(), seed, ports, disk, out) };
+    {
+        // The condition speaks of the lanes.
+        let _ = &lanes;
+        broker(alloc, words.as_slice(), seed, ports, disk, out)
+    };
     let answer = host(
         rt,
         alloc,
