@@ -2,9 +2,11 @@
 //! they are for, and exits with its status.
 #![tactic(auto)]
 
+mod compacting;
 mod peering;
 mod serving;
 
+use compacting::{is_compact, run_compact};
 use mj_base::{NoMemory, Octets, StdSink, StdSource};
 use mj_disk::{Disk, FileDisk, MemoryDisk};
 use mj_host::broker_words;
@@ -29,6 +31,10 @@ fn main(rt: HostRuntime) -> ExitCode {
         let mut source = StdSource::new(rt.reader());
         let mut sink = StdSink::new(io::writer(&rt));
         return ExitCode::from(run_peer(rt, alloc, &words, &mut source, &mut sink));
+    }
+    if is_compact(&words) {
+        let mut sink = StdSink::new(io::writer(&rt));
+        return ExitCode::from(run_compact(&rt, alloc, &words, &mut sink));
     }
     ExitCode::from(run_over_disk(&rt, &words))
 }
