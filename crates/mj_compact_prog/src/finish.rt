@@ -12,11 +12,7 @@ use mj_words::complain;
 use std::alloc::Global;
 
 /// Prints the last line of a compaction, if it has one, and says how it ended.
-pub(crate) fn finish<K: Sink>(
-    alloc: Global,
-    made: Result<u64, CompactFault>,
-    out: &mut K,
-) -> Status
+pub(crate) fn finish<K: Sink>(alloc: Global, made: Result<u64, CompactFault>, out: &mut K) -> Status
     ensures { Ends made (K.written out.old) (K.written out.new) (counted (K.faults out.old) (K.wants out.old)) (counted (K.faults out.new) (K.wants out.new)) result }
 {
     match made {

@@ -35,10 +35,12 @@ fn other_words_are_refused(rt: HostRuntime) -> Result<(), Fail> {
 /// Whether a run over an old file of these bytes is refused with this line, and neither file is written.
 fn is_refused(alloc: Global, old: &[u8], line: &[u8]) -> Result<bool, Fail> {
     let refused = run(alloc, old, b"")?;
-    Ok(refused.status == 3
-        && refused.printed.as_slice() == line
-        && refused.old.as_slice() == old
-        && refused.new.is_empty())
+    Ok(
+        refused.status == 3
+            && refused.printed.as_slice() == line
+            && refused.old.as_slice() == old
+            && refused.new.is_empty(),
+    )
 }
 
 #[test]
