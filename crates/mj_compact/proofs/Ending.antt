@@ -54,9 +54,9 @@ next_is disks store disk f of = next_alike f store.index (of_alike disks store d
 -- why it isn't opened
 pub why_unopened : {D E : Type 0} (olds : Ghosts D) (news : Ghosts E) (old mid : D) (new : E) (fault : OpenFault) → IsUnopened fault (olds.told old) (olds.told mid) → (fault ≡ open_faults.DiskFault → Rose (olds.faults old) (olds.faults mid))
     → IsWhy olds news old mid new new (fault_of fault)
-why_unopened olds news old mid new open_faults.NotAStore un cause = (tt, un)
-why_unopened olds news old mid new (open_faults.Version version) un cause = (tt, un)
-why_unopened olds news old mid new (open_faults.Damaged at) un cause = (tt, un)
+why_unopened olds news old mid new open_faults.NotAStore un cause = (refl, tt, un)
+why_unopened olds news old mid new (open_faults.Version version) un cause = (refl, tt, un)
+why_unopened olds news old mid new (open_faults.Damaged at) un cause = (refl, tt, un)
 why_unopened olds news old mid new open_faults.DiskFault un cause = inl (cause refl)
 why_unopened olds news old mid new open_faults.NoMemory un cause = tt
 

@@ -81,10 +81,10 @@ fault_of (open_faults.Damaged at) = Unopened (open_faults.Damaged at)
 fault_of open_faults.DiskFault = DiskFault
 fault_of open_faults.NoMemory = NoMemory
 
--- why it wasn't done; want of memory says nothing
+-- why it wasn't done; want of memory says nothing. For what is in the old file the new one is neither opened nor made
 abbrev pub IsWhy : {D E : Type 0} → Ghosts D → Ghosts E → D → D → E → E → CompactFault → Type 0
-IsWhy olds news old old_after new new_after (Unopened fault) = IsRefusal fault × IsUnopened fault (olds.told old) (olds.told old_after)
-IsWhy olds news old old_after new new_after Numbers = (f : Fold (List (List ℕ))) → OldHas olds old f → 2 ^ 61 < f.next
+IsWhy olds news old old_after new new_after (Unopened fault) = (new_after ≡ new) × IsRefusal fault × IsUnopened fault (olds.told old) (olds.told old_after)
+IsWhy olds news old old_after new new_after Numbers = (new_after ≡ new) × ((f : Fold (List (List ℕ))) → OldHas olds old f → 2 ^ 61 < f.next)
 IsWhy olds news old old_after new new_after NotEmpty = Now (news.told new) (λ held. 0 < length held.octets)
 IsWhy olds news old old_after new new_after (Damaged at) = IsTelling olds old → ⊥
 IsWhy olds news old old_after new new_after NoMemory = Unit {0}

@@ -1,6 +1,6 @@
-ghost use Rattle.std.specs.Prelude.{◌≡◌, ◌<◌, ◌≤◌, ◌-◌, ◌^◌, ◌++◌, ℕ, List, [], Option, false, true, length, min, take, IfOk, IfErr, OnOk, OnErr};
+ghost use Rattle.std.specs.Prelude.{◌≡◌, ◌<◌, ◌≤◌, ◌+◌, ◌-◌, ◌^◌, ◌++◌, ℕ, List, [], Option, false, true, length, min, take, IfOk, IfErr, OnOk, OnErr};
 ghost use Rattle.std.specs.Io.KnownBytes.{Appends};
-ghost use Rattle.mj_base.specs.Reading.{ReadTakes, ReadCause};
+ghost use Rattle.mj_base.specs.Reading.{ReadTakes, ReadCause, ReadMisses};
 ghost use Rattle.mj_base.specs.Writing.{AppendsFront};
 ghost use Rattle.mj_base.specs.StandardLimits.{standard_limits};
 ghost use Rattle.mj_show.specs.Showing.{item_lines};
@@ -33,6 +33,7 @@ pub(crate) fn show_all<S: Source, K: Sink>(
     ensures cause { IfErr result (λ halt. HaltCause halt (S.faults src.old) (S.faults src.new) (K.faults out.old) (K.faults out.new)) }
     ensures later { K.faults out.old ≤ K.faults out.new }
     ensures wants_later { K.wants out.old ≤ K.wants out.new }
+    ensures misses { S.misses src.new ≤ S.misses src.old + 1 }
 {
     for _ in 0..STREAM_BYTES {
         if !step(alloc, wire, buffer, src, out)? {
@@ -59,6 +60,8 @@ fn step<S: Source, K: Sink>(
     ensures later { K.faults out.old ≤ K.faults out.new }
     ensures wants_later { K.wants out.old ≤ K.wants out.new }
     ensures reads_later { S.faults src.old ≤ S.faults src.new }
+    ensures misses { S.misses src.new ≤ S.misses src.old + 1 }
+    ensures got { IfOk result (λ more. more ≡ true → S.misses src.new ≡ S.misses src.old) }
     ensures ready { OnOk result (wire.new.spent ≡ false) }
     ensures same { length buffer.new ≡ length buffer.old }
 {
@@ -80,6 +83,7 @@ fn read_front<S: Source>(buffer: &mut [u8], most: usize, src: &mut S) -> ReadAns
     ensures octets { ReadTakes (S.left src.old) (S.left src.new) result (take most buffer.new) }
     ensures later { S.faults src.old ≤ S.faults src.new }
     ensures cause { ReadCause (S.faults src.old) (S.faults src.new) result }
+    ensures misses { ReadMisses (S.misses src.old) (S.misses src.new) result }
     ensures same { length buffer.new ≡ length buffer.old }
 {
     src.read(buffer.split_at_mut(most).0)

@@ -1,4 +1,4 @@
-ghost use Rattle.std.specs.Prelude.{◌≡◌, ℕ, List, Option, length, IfOk, IfErr, MatchResult};
+ghost use Rattle.std.specs.Prelude.{◌≡◌, ◌≤◌, ◌+◌, ℕ, List, Option, length, IfOk, IfErr, MatchResult};
 ghost use Rattle.mj_show.specs.Showing.{Shows};
 ghost use Rattle.mj_show.specs.ShowingSoFar.{HaltCause, IsHalted, IsWhole, status_after};
 ghost use Rattle.mj_words.specs.SinkCounts.{AreLater, SinkCounts, counted};
@@ -17,7 +17,8 @@ const BUFFER_BYTES: usize = 4_096;
 /// Prints what the stream of the source says, read with the limits of a broker, and how many bytes it has. The answer is
 /// the status that the program exits with.
 pub fn show<S: Source, K: Sink>(alloc: Global, src: &mut S, out: &mut K) -> u8
-    ensures { Shows (S.left src.old) (S.left src.new) (S.faults src.old) (S.faults src.new) (K.written out.old) (K.written out.new) (counted (K.faults out.old) (K.wants out.old)) (counted (K.faults out.new) (K.wants out.new)) result }
+    ensures misses { S.misses src.new ≤ S.misses src.old + 1 }
+    ensures shows { Shows (S.left src.old) (S.left src.new) (S.faults src.old) (S.faults src.new) (K.written out.old) (K.written out.new) (counted (K.faults out.old) (K.wants out.old)) (counted (K.faults out.new) (K.wants out.new)) result }
 {
     let run = run_stream(alloc, src, out);
     finish(alloc, run, out)
@@ -29,6 +30,7 @@ fn run_stream<S: Source, K: Sink>(alloc: Global, src: &mut S, out: &mut K) -> Re
     ensures halted { IfErr result (λ halt. IsHalted halt (S.left src.old) (S.left src.new) (K.written out.old) (K.written out.new)) }
     ensures cause { IfErr result (λ halt. HaltCause halt (S.faults src.old) (S.faults src.new) (K.faults out.old) (K.faults out.new)) }
     ensures later { AreLater (counted (K.faults out.old) (K.wants out.old)) (counted (K.faults out.new) (K.wants out.new)) }
+    ensures misses { S.misses src.new ≤ S.misses src.old + 1 }
 {
     let mut wire = Wire::new(alloc, &Limits::standard())?;
     let mut buffer = room(alloc)?;

@@ -1,4 +1,4 @@
-use Rattle.std.proofs.Common.{Err, ap, subst, sym, arith, ◌∙◌}
+use Rattle.std.proofs.Common.{Err, ap, refl, subst, sym, arith, ◌∙◌}
 use Rattle.mj_journal.specs.declared.fault.OpenFault.{OpenFault}
 use Rattle.mj_compact.specs.declared.fault.CompactFault.{CompactFault}
 use Rattle.mj_compact.specs.Compacting.{IsWhy}
@@ -18,7 +18,7 @@ returns-then-base-gt-MOST_BASE-clause-images g c = nothing_yet g.D.Disk g.E.Disk
 
 pub returns-then-base-gt-MOST_BASE-clause-why : goal.returns-then-base-gt-MOST_BASE-clause-why
 returns-then-base-gt-MOST_BASE-clause-why g c =
-    numbers_above g.D.Disk c.args.old.now c.open.new.disk c.in-Ok.store c.next-base.result c.in-Ok.ensures.begins c.in-Ok.ensures.telling c.next-base.ensures.value (omega (arith, c.if-base-gt-MOST_BASE.true))
+    (refl, numbers_above g.D.Disk c.args.old.now c.open.new.disk c.in-Ok.store c.next-base.result c.in-Ok.ensures.begins c.in-Ok.ensures.telling c.next-base.ensures.value (omega (arith, c.if-base-gt-MOST_BASE.true)))
 
 pub returns-in-Err-DiskFault-clause-unwritten : goal.returns-in-Err-DiskFault-clause-unwritten
 returns-in-Err-DiskFault-clause-unwritten g c = not_written g.E.Disk c.args.new.now c.begin.new.disk c.in-Err-DiskFault.ensures.kept

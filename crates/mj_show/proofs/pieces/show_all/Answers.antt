@@ -1,4 +1,4 @@
-use Rattle.std.proofs.Common.{[], ◌++◌, ℕ, Bool, subst, sym, arith, length-append}
+use Rattle.std.proofs.Common.{[], ◌++◌, ℕ, Bool, refl, subst, sym, ◌∙◌, arith, length-append}
 use Rattle.mj_show.specs.ShowingSoFar.{IsWhole, StepsOn}
 use Rattle.mj_show.proofs.StepLemmas.{so-far-at-first, taken-is, whole-at, whole-full}
 use Rattle.mj_show.proofs.pieces.show_all.Goals as goal
@@ -13,6 +13,7 @@ loop-init g c = record {
   later = omega arith;
   wants_later = omega arith;
   reads_later = omega arith;
+  misses = refl;
 }
 
 pub step-requires-clause-few : goal.step-requires-clause-few
@@ -43,6 +44,7 @@ loop-preserved g c =
       later = (let a = i.later in let b = e.later in omega (arith, a, b));
       wants_later = (let a = i.wants_later in let b = e.wants_later in omega (arith, a, b));
       reads_later = (let a = i.reads_later in let b = e.reads_later in omega (arith, a, b));
+      misses = e.got c.if-not-branch.false ∙ i.misses;
     }
 
 pub returns-clause-whole : goal.returns-clause-whole

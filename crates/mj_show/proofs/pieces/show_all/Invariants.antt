@@ -12,4 +12,5 @@ invariant-loop g l = record {
   later : g.K.Sink.faults l.fn.out ≤ g.K.Sink.faults l.out;
   wants_later : g.K.Sink.wants l.fn.out ≤ g.K.Sink.wants l.out;
   reads_later : g.S.Source.faults l.fn.src ≤ g.S.Source.faults l.src;
+  misses : g.S.Source.misses l.src ≡ g.S.Source.misses l.fn.src;
 }
