@@ -19,6 +19,9 @@ pub(crate) const ROUTER: &[u8] =
 \0\0\0\0\0\0\0\0\0\0\0\0\0\0\0\0\0\0\0\0\0\0\0\0\0\0\0\0\0\0\0\0\
 \x04\x1c\x05READY\x0bSocket-Type\0\0\0\x06ROUTER";
 
+/// Acts, each with its name and its bytes, of a reply the first frame.
+pub(crate) type Wanted = &'static [(&'static str, &'static [u8])];
+
 /// A piece of the link, of these parts.
 pub(crate) fn piece(alloc: Global, parts: &[&[u8]]) -> Result<LinkEvent, Fail> {
     let mut octets = Octets::new(alloc);
@@ -49,7 +52,7 @@ fn said(act: &Act) -> (&'static str, &[u8]) {
 }
 
 /// Whether these are the acts.
-pub(crate) fn are(acts: &Acts, wanted: &[(&str, &[u8])]) -> bool {
+pub(crate) fn are(acts: &Acts, wanted: Wanted) -> bool {
     if acts.len() != wanted.len() {
         return false;
     }
