@@ -153,3 +153,28 @@ def open_files(process):
         return len(os.listdir(f"/proc/{process.pid}/fd"))
     except OSError:
         return None
+
+
+class Skipped(Exception):
+    """A check can't be made here, for this reason."""
+
+
+def run(script, checks, program):
+    """Makes each check, which is a function of the program's path with a line that describes it; the status of the script."""
+    failed = False
+    for check in checks:
+        start, what = time.monotonic(), check.__doc__.strip()
+        try:
+            note = check(program)
+            print(f"{script}: {what}: ok{f', {note}' if note else ''} ({time.monotonic() - start:.1f} s)", flush=True)
+        except Skipped as reason:
+            print(f"{script}: {what}: skipped, {reason}", flush=True)
+        except Exception as error:  # whatever it is, the others are still made
+            print(f"{script}: {what}: FAILED, {type(error).__name__} {error}", flush=True)
+            failed = True
+    return 1 if failed else 0
+
+
+def same(what, got, wanted):
+    if got != wanted:
+        raise AssertionError(f"{what} is {got!r}, not {wanted!r}")
