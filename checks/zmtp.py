@@ -22,22 +22,30 @@ class Peer:
         self.socket.settimeout(timeout)
         self.socket.connect((host, int(port)))
         self.socket.setsockopt(socket.IPPROTO_TCP, socket.TCP_NODELAY, 1)
-        self.kind, self.buffer = kind, bytearray()
+        self.kind, self.buffer, self.has_sent, self.is_accepted = kind, bytearray(), False, False
         if greet:
             self.greet()
 
     def greet(self, timeout=None):
-        """Both greetings and both READYs."""
-        self.socket.sendall(GREETING + frame(b"\x05READY\x0bSocket-Type" + len(self.kind).to_bytes(4, "big") + self.kind, 4))
+        """Both greetings and both READYs. Where it ends by a timeout it can be called again."""
+        if not self.has_sent:
+            self.has_sent = True
+            self._begin()
         deadline = deadline_in(timeout if timeout is not None else self.socket.gettimeout())
-        while len(self.buffer) < 64:
-            self._more(deadline)
-        if self.buffer[:64] != GREETING:
-            raise ValueError(f"not the broker's greeting: {self.buffer[:64].hex()}")
-        del self.buffer[:64]
+        if not self.is_accepted:
+            while len(self.buffer) < 64:
+                self._more(deadline)
+            if self.buffer[:64] != GREETING:
+                raise ValueError(f"not the broker's greeting: {self.buffer[:64].hex()}")
+            del self.buffer[:64]
+            self.is_accepted = True
         flags, body = self._frame(deadline)
         if flags != 4 or body != b"\x05READY\x0bSocket-Type\x00\x00\x00\x06ROUTER":
             raise ValueError(f"not the broker's READY: {body.hex()}")
+
+    def _begin(self):
+        kind = len(self.kind).to_bytes(4, "big") + self.kind
+        self.socket.sendall(GREETING + frame(b"\x05READY\x0bSocket-Type" + kind, 4))
 
     def send(self, *frames):
         try:
