@@ -1,5 +1,7 @@
 """What the checks share: a small ZMTP 3.0 peer (NULL) over a plain socket, and the program's broker as a process."""
+import atexit
 import os
+import signal
 import socket
 import subprocess
 import time
@@ -134,12 +136,29 @@ def serve_one(peer, timeout=5.0, answer=None):
             return order[5:]
 
 
+def start(words, **popen):
+    """A process with its outputs as pipes, in a group of its own. What is left of it when the script ends is killed."""
+    process = subprocess.Popen(words, stdout=subprocess.PIPE, stderr=subprocess.PIPE, start_new_session=True, **popen)
+    atexit.register(kill, process)
+    return process
+
+
+def kill(process):
+    """SIGKILL to the process and those that it started, where it still runs; gives what it had printed."""
+    if process.returncode is None:
+        try:
+            os.killpg(process.pid, signal.SIGKILL)
+        except ProcessLookupError:
+            pass
+        return process.communicate()
+    return b"", b""
+
+
 class Broker:
     """The program's broker, and the address at which it listens."""
 
     def __init__(self, program, place="-", address="127.0.0.1:0", options=(), **popen):
-        words = [program, place, "broker", address, *options]
-        self.process = subprocess.Popen(words, stdout=subprocess.PIPE, stderr=subprocess.PIPE, stdin=subprocess.DEVNULL, **popen)
+        self.process = start([program, place, "broker", address, *options], stdin=subprocess.DEVNULL, **popen)
         line = self.process.stderr.readline().decode()
         if not line.startswith("listening "):
             out, _ = self.process.communicate(timeout=10)
@@ -148,8 +167,7 @@ class Broker:
 
     def kill(self):
         """SIGKILL, and the process is gone."""
-        self.process.kill()
-        self.process.communicate()
+        kill(self.process)
 
     def runs(self):
         return self.process.poll() is None
