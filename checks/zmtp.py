@@ -4,7 +4,10 @@ import os
 import signal
 import socket
 import subprocess
+import sys
 import time
+
+signal.signal(signal.SIGTERM, lambda *_: sys.exit(143))  # so that what was started is ended too
 
 GREETING = bytes.fromhex("ff00000000000000007f03004e554c4c") + bytes(48)
 
