@@ -7,7 +7,7 @@ use Rattle.std.proofs.lemmas.Str.Parse.{IsNumeralModel, numerals_by_fold, digits
 use Rattle.std.proofs.lemmas.Fmt.{digits_decimal, digits_value-decimal, length-decimal-le, decimal_nonempty, first_decimal, decimal_digit, decimal-digits_value}
 use Rattle.std.specs.List.{list_all}
 use Rattle.std.specs.Fmt.{decimal}
-use Rattle.mj_prog.specs.Numbers.{is_digit, are_digits, digits_onto, is_number, number_of, has_leading_zero, NumbersAreDecimal}
+use Rattle.mj_words.specs.Numbers.{is_digit, are_digits, digits_onto, is_number, number_of, has_leading_zero, NumbersAreDecimal}
 
 pub below-pow : (value i : ℕ) → value < 10 ^ i → i < 19 → value < 10 ^ 18
 below-pow value i small few =

@@ -15,3 +15,4 @@ pub mod OptionLaws
 pub mod ReadingStops
 pub mod Untouched
 pub mod Listings
+pub mod ToolLaws

@@ -25,10 +25,10 @@ use Rattle.mj_journal.specs.declared.fault.OpenFault.TheVariants as opening
 use Rattle.mj_store.specs.Opening.{IsRefusal, IsUnopened, NoneLawful}
 use Rattle.mj_prog.specs.Listing.{ListingRow, Lists, Next, line_with, listed, listing, ticket_line, upto}
 use Rattle.mj_prog.specs.Running.{IsFileRefused}
-use Rattle.mj_prog.specs.SinkCounts.{SinkCounts}
+use Rattle.mj_words.specs.SinkCounts.{SinkCounts}
 use Rattle.mj_prog.specs.declared.halt.StoreFault.{StoreFault}
 use Rattle.mj_prog.specs.declared.halt.StoreFault.TheVariants as stores
-use Rattle.mj_prog.specs.Shown.{done_line}
+use Rattle.mj_words.specs.Lines.{done_line}
 use Rattle.mj_prog.specs.StatusRows.{IsFileRow, PrintsDone, Refuses, RefusesOpening}
 use Rattle.mj_prog.specs.declared.status.Status.{Status}
 use Rattle.mj_prog.specs.declared.status.Status.TheVariants as statuses

@@ -1,11 +1,16 @@
 -- Laws of options among words.
-use Rattle.std.proofs.Common.{◌≡◌, ◌<◌, ◌≤◌, ◌+◌, ◌-◌, ◌*◌, ◌/◌, ◌%◌, ◌&&◌, ℕ, suc, Bool, true, false, cond, nat_eq, List, [], ◌∷◌, length, get_or, map, drop, Option, None, refl, sym, ap, ◌∙◌, subst, arith, length-drop}
+use Rattle.std.proofs.Common.{◌≡◌, ◌<◌, ◌≤◌, ◌+◌, ◌-◌, ◌*◌, ◌/◌, ◌%◌, ◌&&◌, ℕ, suc, Bool, true, false, cond, nat_eq, List, [], ◌∷◌, length, get_or, map, drop, Option, Some, None, refl, sym, ap, ◌∙◌, subst, arith, length-drop}
 use Rattle.std.proofs.Math.Seq.{drop-cons}
 use Rattle.std.proofs.lemmas.List.{get_or-map, length-map}
 use Rattle.std.specs.Str.{bytes_eq}
+use Rattle.std.specs.Prelude.{codes}
+use Rattle.std.proofs.lemmas.Slice.Eq.{bytes_eq-Decides}
 use Rattle.mj_prog.specs.declared.words.Found.{Found}
 use Rattle.mj_prog.specs.declared.words.Found.TheVariants as founds
-use Rattle.mj_prog.specs.Words.{command_in, is_option, are_options, values_of, once_or}
+use Rattle.mj_prog.specs.Words.{command_in, tool_in}
+use Rattle.mj_prog.specs.declared.words.Tool.{Tool}
+use Rattle.mj_prog.specs.declared.words.Tool.TheVariants as tools
+use Rattle.mj_words.specs.Options.{once_or, values_of}
 use Rattle.mj_prog.specs.FoundValue.{IsFound, found_after}
 
 -- a word's bytes
@@ -26,31 +31,10 @@ pair-at words i inside =
     ap (λ (n : ℕ). drop n words) next ∙ drop-cons words (2 * i + 1) [] (omega arith) ∙ ap (λ (n : ℕ). get_or words (2 * i + 1) [] ∷ drop n words) after in
     drop-cons words (2 * i) [] (omega arith) ∙ ap (λ (ws : List (List ℕ)). get_or words (2 * i) [] ∷ ws) value
 
-pub options-step : (words : List (List ℕ)) (i : ℕ) → 2 * i + 1 < length words → is_option (get_or words (2 * i) []) ≡ true
-    → are_options (drop (2 * i) words) ≡ are_options (drop (2 * (i + 1)) words)
-options-step words i inside known =
-    ap are_options (pair-at words i inside) ∙ ap (λ (b : Bool). b && are_options (drop (2 * (i + 1)) words)) known
-
-pub options-unknown : (words : List (List ℕ)) (i : ℕ) → 2 * i + 1 < length words → is_option (get_or words (2 * i) []) ≡ false
-    → are_options (drop (2 * i) words) ≡ false
-options-unknown words i inside unknown =
-    ap are_options (pair-at words i inside) ∙ ap (λ (b : Bool). b && are_options (drop (2 * (i + 1)) words)) unknown
-
 left-over : {X : Type 0} (f : X → List ℕ) (words : List X) → length (drop (2 * (length words / 2)) (map f words)) ≡ length words % 2
 left-over f words =
     let same : length (map f words) ≡ length words = length-map words f in
     let size : length (drop (2 * (length words / 2)) (map f words)) ≡ length (map f words) - 2 * (length words / 2) = length-drop (2 * (length words / 2)) (map f words) in omega arith
-
-few-options : (words : List (List ℕ)) → length words < 2 → are_options words ≡ nat_eq (length words) 0
-few-options [] few = refl
-few-options (word ∷ []) few = refl
-few-options (name ∷ value ∷ more) few = absurd (omega arith)
-
--- no word is left over behind the options
-pub options-end : {X : Type 0} (f : X → List ℕ) (words : List X) → are_options (drop (2 * (length words / 2)) (map f words)) ≡ nat_eq (length words % 2) 0
-options-end f words =
-    let size = left-over f words in
-    few-options (drop (2 * (length words / 2)) (map f words)) (omega (arith, size)) ∙ ap (λ (n : ℕ). nat_eq n 0) size
 
 found-value : (words : List (List ℕ)) (answer : Found) (at : ℕ) (rest later values : List (List ℕ)) → at < length words → rest ≡ get_or words at [] ∷ later
     → IsFound words answer rest values → IsFound words (found_after answer at) later values
@@ -99,3 +83,15 @@ pub too-few-words : (words : List (List ℕ)) → length words < 2 → None ≡ 
 too-few-words [] few = refl
 too-few-words (place ∷ []) few = refl
 too-few-words (place ∷ command ∷ more) few = absurd (omega arith)
+
+shown-alone : (place word : List ℕ) (tool : Tool) (here shown : Bool) → bytes_eq word (codes "show") ≡ shown → cond (here && shown) (Some tools.Show) None ≡ Some tool → command_in (place ∷ word ∷ []) ≡ None
+shown-alone place word tool true true same is = subst (λ (w : List ℕ). command_in (place ∷ w ∷ []) ≡ None) (sym ((bytes_eq-Decides word (codes "show")).0 same)) refl
+shown-alone place word tool true false same is = absurd (cc)
+shown-alone place word tool false shown same is = absurd (cc)
+
+-- what asks for a tool asks for nothing of the broker
+pub tools-alone : (words : List (List ℕ)) (tool : Tool) → tool_in words ≡ Some tool → command_in words ≡ None
+tools-alone [] tool is = refl
+tools-alone (word ∷ []) tool is = refl
+tools-alone (place ∷ word ∷ []) tool is = shown-alone place word tool (bytes_eq place (codes "-")) (bytes_eq word (codes "show")) refl is
+tools-alone (place ∷ word ∷ other ∷ more) tool is = cc

@@ -10,11 +10,12 @@ use Rattle.mj_machine.specs.EventStep.{Noted}
 use Rattle.mj_machine.specs.MachineState.{Machine}
 use Rattle.mj_serve.specs.Given.{events_in}
 use Rattle.mj_prog.specs.Made.{IsMadeOf, IsMadeWhole, Made, printed}
-use Rattle.mj_prog.specs.ReplayTable.{AppendsLine, IsCutByStore, IsCutOff}
+use Rattle.mj_prog.specs.ReplayTable.{IsCutByStore, IsCutOff}
+use Rattle.mj_words.specs.Lines.{AppendsLine, done_line}
 use Rattle.mj_prog.specs.Running.{FaultCounts, IsHalted}
 use Rattle.mj_prog.specs.Script.{script}
-use Rattle.mj_prog.specs.Shown.{done_line, store_line}
-use Rattle.mj_prog.specs.SinkCounts.{SinkCounts}
+use Rattle.mj_prog.specs.Shown.{store_line}
+use Rattle.mj_words.specs.SinkCounts.{SinkCounts}
 use Rattle.mj_prog.specs.StatusRows.{IsRow, PrintsDone, StatusCause, status_after}
 use Rattle.mj_prog.specs.declared.halt.Halt.TheVariants as halts
 use Rattle.mj_prog.specs.declared.halt.StoreFault.{StoreFault}

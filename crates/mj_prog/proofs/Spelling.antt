@@ -11,7 +11,7 @@ use Rattle.std.specs.Fmt.{decimal}
 use Rattle.mj_base.specs.declared.event.Event.{Event}
 use Rattle.mj_base.specs.declared.event.Event.TheVariants as events
 use Rattle.mj_prog.specs.declared.meaning.Meaning.TheVariants as meanings
-use Rattle.mj_prog.specs.Numbers.{is_digit, number_of}
+use Rattle.mj_words.specs.Numbers.{is_digit, number_of}
 use Rattle.mj_prog.specs.Script.{is_space, is_silent, lane_in, lane_of, piece_of, on_lane, bytes_on, bytes_at, bytes_of, tick_at, event_named, event_at, event_of, acting, meaning_of}
 use Rattle.mj_prog.specs.SpelledLines.{IsSpelled, EventsAreSpelled}
 use Rattle.mj_prog.proofs.Digits.{numbers-are-decimal, decimal-digits}

@@ -23,7 +23,7 @@ use Rattle.mj_prog.specs.ReplayTable.{IsInput}
 use Rattle.mj_prog.specs.Running.{IsFresh, is_stopped}
 use Rattle.mj_prog.specs.Script.{script}
 use Rattle.mj_prog.specs.Shown.{line_of_out, shown}
-use Rattle.mj_prog.specs.SinkCounts.{AreLater, SinkCounts}
+use Rattle.mj_words.specs.SinkCounts.{AreLater, SinkCounts}
 use Rattle.mj_prog.specs.Standing.{AddsCause, AddsOut, HasPrinted, HasRead, Prints, ReadsTo, SinkSeen, SourceSeen, Stands}
 use Rattle.mj_prog.proofs.Printing.{front-of, front-behind, rose-from, rose-until, shown-append}
 use Rattle.mj_prog.proofs.ReadingStops.{further, stops-on}

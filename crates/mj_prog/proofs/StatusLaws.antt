@@ -10,11 +10,12 @@ use Rattle.mj_store.specs.Opening.{NoneLawful}
 use Rattle.mj_store.specs.Standing.{IsTelling}
 use Rattle.mj_prog.specs.Listing.{ListingRow, Lists, listed}
 use Rattle.mj_prog.specs.Made.{Begins, Made, Runs}
-use Rattle.mj_prog.specs.ReplayTable.{AnswersFor, AppendsLine}
+use Rattle.mj_prog.specs.ReplayTable.{AnswersFor}
+use Rattle.mj_words.specs.Lines.{AppendsLine}
 use Rattle.mj_prog.specs.Running.{FaultCounts}
 use Rattle.mj_prog.specs.Script.{Ending, WithText, AtStop, AtUnlawful, IsLawful, script}
 use Rattle.mj_prog.specs.Shown.{fault_disk}
-use Rattle.mj_prog.specs.SinkCounts.{SinkCounts}
+use Rattle.mj_words.specs.SinkCounts.{SinkCounts}
 use Rattle.mj_prog.specs.StatusRows.{IsFileRow, IsRefusedFile, IsRow, IsUnopened, StatusCause}
 use Rattle.mj_prog.specs.Statuses.{code_of}
 use Rattle.mj_prog.specs.Words.{is_over_file, options_for}

@@ -1,4 +1,3 @@
-pub mod Numbers
 pub mod Script
 pub mod SpelledLines
 pub mod Shown
@@ -12,5 +11,4 @@ pub mod Running
 pub mod Statuses
 pub mod StatusRows
 pub mod Listing
-pub mod SinkCounts
 pub mod Reads

@@ -11,7 +11,7 @@ use Rattle.mj_store.specs.Opening.{LeavesBegun, OpensLawfully}
 use Rattle.mj_tickets.specs.Fold.{Fold, Ticket, fold_of}
 use Rattle.mj_tickets.specs.declared.command.TicketCmd.{TicketCmd}
 use Rattle.mj_tickets.specs.declared.place.Place.{Place}
-use Rattle.mj_prog.specs.Shown.{done_line}
+use Rattle.mj_words.specs.Lines.{done_line}
 use Rattle.mj_prog.specs.declared.status.Status.{Status}
 use Rattle.mj_prog.specs.declared.status.Status.TheVariants as statuses
 

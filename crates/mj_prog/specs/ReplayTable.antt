@@ -1,26 +1,19 @@
 -- What a replay prints, by the status that it answers.
 use Rattle.std.specs.Prelude.{ℕ, ◌≡◌, ◌≤◌, ◌^◌, ◌⊎◌, List, ◌++◌, length, take, Option, Some, None}
 use Rattle.std.specs.Io.KnownBytes.{Appends, Consumes}
-use Rattle.mj_base.specs.Rising.{Rose}
 use Rattle.mj_base.specs.Writing.{AppendsFront}
 use Rattle.mj_machine.specs.MachineState.{Machine}
 use Rattle.mj_prog.specs.Made.{IsMadeOf, IsMadeWhole, Made, printed}
 use Rattle.mj_prog.specs.Script.{Ending, WithText, AtStop, AtUnlawful, script, IsLawful, ended_part}
-use Rattle.mj_prog.specs.SinkCounts.{SinkCounts}
-use Rattle.mj_prog.specs.Shown.{done_line, fault_line, fault_read, store_line}
+use Rattle.mj_words.specs.Lines.{AppendsLine, done_line, fault_read}
+use Rattle.mj_words.specs.SinkCounts.{SinkCounts}
+use Rattle.mj_prog.specs.Shown.{fault_line, store_line}
 use Rattle.mj_prog.specs.declared.halt.StoreFault.{StoreFault}
 
 -- the script's text: the first 2^40 bytes of what the source has, where it tells
 abbrev pub IsInput : Option (List ℕ) → List ℕ → Type 0
 IsInput None text = length text ≤ 2 ^ 40
 IsInput (Some all) text = text ≡ take (2 ^ 40) all
-
--- behind these bytes a line: whole; not at all, where the sink wanted memory; or a front of it, where the write failed
-abbrev pub AppendsLine : Option (List ℕ) → Option (List ℕ) → SinkCounts → SinkCounts → List ℕ → List ℕ → Type 0
-AppendsLine old new before now bytes line =
-    Appends old new (bytes ++ line)
-    ⊎ (Rose before.wants now.wants × Appends old new bytes)
-    ⊎ (Rose before.faults now.faults × ((n : ℕ) × Appends old new (bytes ++ take n line)))
 
 -- status 0: no line is unlawful, and all is printed, with `done N` behind it
 abbrev pub IsDone : ℕ → Machine → Made → Option (List ℕ) → Option (List ℕ) → Option (List ℕ) → Type 0

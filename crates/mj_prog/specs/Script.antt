@@ -8,7 +8,7 @@ use Rattle.mj_base.specs.declared.event.Event.{Event}
 use Rattle.mj_base.specs.declared.event.Event.TheVariants as events
 use Rattle.mj_prog.specs.declared.meaning.Meaning.{Meaning}
 use Rattle.mj_prog.specs.declared.meaning.Meaning.TheVariants.{Act, Nothing, Stop, Unlawful}
-use Rattle.mj_prog.specs.Numbers.{number_of}
+use Rattle.mj_words.specs.Numbers.{number_of}
 
 abbrev pub is_newline : ℕ → Bool
 is_newline c = nat_eq c 10

@@ -45,9 +45,6 @@ abbrev pub shown : List Out → List ℕ
 shown [] = []
 shown (out ∷ outs) = line_of_out out ++ shown outs
 
-abbrev pub done_line : ℕ → List ℕ
-done_line events = codes "done " ++ (decimal events ++ codes "\n")
-
 abbrev pub fault_line : ℕ → List ℕ
 fault_line number = codes "fault line " ++ (decimal number ++ codes "\n")
 
@@ -59,9 +56,3 @@ store_line (stores.Damaged at) = codes "fault store damaged " ++ (decimal at ++ 
 
 abbrev pub fault_disk : List ℕ
 fault_disk = codes "fault disk\n"
-
-abbrev pub fault_words : List ℕ
-fault_words = codes "fault words\n"
-
-abbrev pub fault_read : List ℕ
-fault_read = codes "fault read\n"

@@ -17,7 +17,7 @@ use Rattle.mj_prog.specs.ReadSoFar.{IsNext, IsSoFar}
 use Rattle.mj_prog.specs.ReplayTable.{IsInput}
 use Rattle.mj_prog.specs.Script.{script}
 use Rattle.mj_prog.specs.Shown.{line_of_out, shown}
-use Rattle.mj_prog.specs.SinkCounts.{AreLater, SinkCounts}
+use Rattle.mj_words.specs.SinkCounts.{AreLater, SinkCounts}
 
 -- ---- of the source
 

@@ -9,15 +9,16 @@ use Rattle.mj_prog.specs.declared.status.Status.{Status}
 use Rattle.mj_prog.specs.declared.status.Status.TheVariants as statuses
 use Rattle.mj_machine.specs.MachineState.{Machine}
 use Rattle.mj_prog.specs.Made.{Made}
-use Rattle.mj_prog.specs.ReplayTable.{AppendsLine, IsDone, IsRefused, IsCutByStore, IsCutOff, IsUnwritten, IsUnread}
+use Rattle.mj_prog.specs.ReplayTable.{IsDone, IsRefused, IsCutByStore, IsCutOff, IsUnwritten, IsUnread}
+use Rattle.mj_words.specs.Lines.{AppendsLine, done_line}
 use Rattle.mj_prog.specs.Running.{FaultCounts, IsFileRefused}
-use Rattle.mj_prog.specs.Shown.{done_line, fault_disk, store_line}
+use Rattle.mj_prog.specs.Shown.{fault_disk, store_line}
 use Rattle.mj_prog.specs.declared.halt.StoreFault.{StoreFault}
 use Rattle.mj_prog.specs.declared.halt.StoreFault.TheVariants as stores
 use Rattle.mj_disk.specs.DiskModel.{History}
 use Rattle.mj_journal.specs.declared.fault.OpenFault.{OpenFault}
 use Rattle.mj_journal.specs.declared.fault.OpenFault.TheVariants as opening
-use Rattle.mj_prog.specs.SinkCounts.{SinkCounts}
+use Rattle.mj_words.specs.SinkCounts.{SinkCounts}
 
 -- the row of a status, of a run over a script: what the source has left before and after; what the sink has got, and its counts
 abbrev pub IsRow : ℕ → Machine → Made → Option (List ℕ) → Option (List ℕ) → Option (List ℕ) → Option (List ℕ) → SinkCounts → SinkCounts → Status → Type 0

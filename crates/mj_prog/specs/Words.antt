@@ -1,45 +1,17 @@
 -- The words of the program, which are those behind its name.
-use Rattle.std.specs.Prelude.{ℕ, ◌&&◌, ◌||◌, Bool, true, false, not, nat_eq, nat_le, nat_lt, length, List, [], ◌∷◌, Option, Some, None, if◌then◌else◌, codes, replicate}
+use Rattle.std.specs.Prelude.{ℕ, ◌≡◌, ◌&&◌, ◌||◌, Bool, true, false, not, nat_eq, nat_le, nat_lt, length, List, [], ◌∷◌, Option, Some, None, if◌then◌else◌, codes, replicate}
 use Rattle.std.specs.List.{starts_with}
 use Rattle.std.specs.Str.{bytes_eq}
 use Rattle.hex.specs.Hex.{decode_sized}
 use Rattle.mj_prog.specs.declared.words.Command.{Command}
 use Rattle.mj_prog.specs.declared.words.Command.TheVariants as commands
 use Rattle.mj_prog.specs.declared.words.Options.{Options}
-use Rattle.mj_prog.specs.Numbers.{number_of}
+use Rattle.mj_prog.specs.declared.words.Tool.{Tool}
+use Rattle.mj_prog.specs.declared.words.Tool.TheVariants as tools
+use Rattle.mj_words.specs.Options.{are_options, is_among, number_between, once_or, values_of}
 use Rattle.mj_prog.specs.Script.{decoded}
 
 -- ---- options
-
--- those of a replay
-abbrev pub is_option : List ℕ → Bool
-is_option name = bytes_eq name (codes "--lanes") || bytes_eq name (codes "--seed")
-
--- each option is two words, its name and its value
-abbrev pub are_options : List (List ℕ) → Bool
-are_options [] = true
-are_options (word ∷ []) = false
-are_options (name ∷ value ∷ more) = is_option name && are_options more
-
--- the values of the option with this name
-abbrev pub values_of : List ℕ → List (List ℕ) → List (List ℕ)
-values_of name [] = []
-values_of name (word ∷ []) = []
-values_of name (other ∷ value ∷ more) = if bytes_eq other name then value ∷ values_of name more else values_of name more
-
--- an option is given at most once; this stands for it where it isn't given
-abbrev pub once_or : {A : Type 0} → A → (List ℕ → Option A) → List (List ℕ) → Option A
-once_or default read [] = Some default
-once_or default read (value ∷ []) = read value
-once_or default read (value ∷ other ∷ more) = None
-
--- 1 to 64 lanes
-abbrev pub lane_count : Option ℕ → Option ℕ
-lane_count None = None
-lane_count (Some n) = if nat_le 1 n && nat_le n 64 then Some n else None
-
-abbrev pub lanes_of : List ℕ → Option ℕ
-lanes_of text = lane_count (number_of text)
 
 -- a seed: 32 bytes in hex, of either case
 abbrev pub seed_of : List ℕ → Option (List ℕ)
@@ -54,8 +26,8 @@ options_with stored (Some lanes) (Some seed) = Some (record { stored = stored; l
 -- `--lanes N` and `--seed H`: where they aren't given, 64 lanes and a seed of zeros
 abbrev pub options_of : Bool → List (List ℕ) → Option Options
 options_of stored words =
-    if are_options words
-    then options_with stored (once_or 64 lanes_of (values_of (codes "--lanes") words)) (once_or (replicate 32 0) seed_of (values_of (codes "--seed") words))
+    if are_options (is_among (codes "--lanes") (codes "--seed") (codes "--seed")) words
+    then options_with stored (once_or 64 (number_between 1 64) (values_of (codes "--lanes") words)) (once_or (replicate 32 0) seed_of (values_of (codes "--seed") words))
     else None
 
 -- ---- the place, and what is asked for
@@ -90,6 +62,17 @@ abbrev pub command_in : List (List ℕ) → Option Command
 command_in [] = None
 command_in (place ∷ []) = None
 command_in (place ∷ command ∷ more) = command_at place command more
+
+-- what needs no broker: `help` alone, and `- show`
+abbrev pub tool_in : List (List ℕ) → Option Tool
+tool_in [] = None
+tool_in (word ∷ []) = if bytes_eq word (codes "help") then Some tools.Help else None
+tool_in (place ∷ word ∷ []) = if bytes_eq place (codes "-") && bytes_eq word (codes "show") then Some tools.Show else None
+tool_in (place ∷ word ∷ other ∷ more) = None
+
+-- the words ask for nothing that there is
+abbrev pub AskForNothing : List (List ℕ) → Type 0
+AskForNothing words = (tool_in words ≡ None) × (command_in words ≡ None)
 
 -- ---- by the command
 

@@ -6,8 +6,8 @@ ghost use Rattle.mj_prog.specs.Running.{FaultCounts, IsHalted, IsUntaken, HaltCa
 ghost use Rattle.mj_prog.specs.Shown;
 ghost use Rattle.mj_prog.specs.Shown.{fault_disk};
 ghost use Rattle.mj_prog.specs.StatusRows.{IsRow, IsUnopened, PrintsDone, Refuses, RefusesOpening, StatusCause, status_after};
-ghost use Rattle.mj_prog.specs.ReplayTable.{AppendsLine};
-ghost use Rattle.mj_prog.specs.SinkCounts.{SinkCounts, AreLater, counted};
+ghost use Rattle.mj_words.specs.Lines.{AppendsLine};
+ghost use Rattle.mj_words.specs.SinkCounts.{SinkCounts, AreLater, counted};
 ghost use Rattle.mj_prog.specs.declared.halt.Halt;
 ghost use Rattle.mj_prog.specs.declared.halt.StoreFault.{StoreFault as AnyStoreFault};
 ghost use Rattle.mj_prog.specs.declared.status.Status;
@@ -17,6 +17,7 @@ use super::print::{done_line, fault_line, store_line};
 use super::status::Status;
 use mj_base::{NoMemory, Sink, WriteAnswer};
 use mj_store::OpenFault;
+use mj_words::complain;
 use std::alloc::Global;
 
 /// Prints the last line of a run that took so many events, if it has one, and says how it ended.
@@ -123,11 +124,4 @@ pub fn refuse_opening<K: Sink>(alloc: Global, fault: OpenFault, out: &mut K) -> 
         }
         OpenFault::NoMemory => Status::NoMemory,
     }
-}
-
-/// Prints the line of a fault. That it can't be printed changes no status.
-pub fn complain<K: Sink>(line: &[u8], out: &mut K)
-    ensures { (written : Option (List ℕ)) (bytes : List ℕ) (before : SinkCounts) → AreLater before (counted (K.faults out.old) (K.wants out.old)) → Appends written (K.written out.old) bytes → AppendsLine written (K.written out.new) before (counted (K.faults out.new) (K.wants out.new)) bytes line.now }
-{
-    let _ = out.write(line);
 }

@@ -9,7 +9,6 @@ mod line;
 mod listing;
 mod meaning;
 mod next;
-mod number;
 mod print;
 mod progress;
 mod read;

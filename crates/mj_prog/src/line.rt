@@ -2,15 +2,15 @@ ghost use Rattle.std.specs.Prelude.{◌≡◌, ◌<◌, ℕ, IfOk, IfSome, lengt
 ghost use Rattle.std.specs.List.{position};
 ghost use Rattle.mj_prog.specs.Script.{is_space, meaning_of, event_at, event_named, on_lane, bytes_at, bytes_on, tick_at, lane_of, piece_of, decoded, PiecesAreHex};
 ghost use Rattle.mj_prog.specs.Script;
-ghost use Rattle.mj_prog.specs.Numbers.{number_of};
+ghost use Rattle.mj_words.specs.Numbers.{number_of};
 ghost use Rattle.mj_prog.specs.SpelledLines.{EventsAreSpelled};
 ghost use Rattle.hex.specs.Hex.{decode_of};
 ghost use Rattle.mj_prog.specs.ReadSoFar.{MeaningIsTaken, EventIsTaken, IsPiece};
 
 use super::meaning::Meaning;
-use super::number::read_number;
 use hex::FromHexError;
 use mj_base::{Event, NoMemory, Octets};
+use mj_words::read_number;
 use std::alloc::Global;
 
 /// A line has at most so many bytes before its newline.

@@ -4,7 +4,7 @@ ghost use Rattle.mj_ids.specs.Ids.{number_of};
 ghost use Rattle.mj_prog.specs.Listing;
 ghost use Rattle.mj_prog.specs.Listing.{IsOpenedAlone, ListingRow, Lists, Next, listed, upto};
 ghost use Rattle.mj_prog.specs.Running.{fault_counts};
-ghost use Rattle.mj_prog.specs.SinkCounts.{counted};
+ghost use Rattle.mj_words.specs.SinkCounts.{counted};
 ghost use Rattle.mj_prog.specs.StatusRows.{IsFileRow, IsUnopened, StatusCause, WriteStatusCause};
 ghost use Rattle.mj_prog.specs.declared.status.Status;
 ghost use Rattle.mj_store.specs.Opening.{NoneLawful};

@@ -2,7 +2,8 @@ ghost use Rattle.std.specs.Prelude.{◌≡◌, ◌≤◌, IfOk, MatchResult, str
 ghost use Rattle.hex.specs.Hex.{encode_lower};
 ghost use Rattle.mj_base.specs.Writing.{WriteAdds, WriteCause};
 ghost use Rattle.mj_prog.specs.Shown;
-ghost use Rattle.mj_prog.specs.SinkCounts.{AreLater, counted};
+ghost use Rattle.mj_words.specs.Lines;
+ghost use Rattle.mj_words.specs.SinkCounts.{AreLater, counted};
 ghost use Rattle.mj_prog.specs.Standing.{AddsOut, AddsCause};
 ghost use Rattle.std.specs.Io.KnownBytes.{Keeps};
 ghost use Rattle.mj_base.specs.declared.sink.WriteAnswer;
@@ -135,7 +136,7 @@ fn reason_word(reason: Reason) -> &'static str
 }
 
 pub fn done_line(alloc: Global, events: u64) -> Result<String, NoMemory>
-    ensures { IfOk result (λ line. string_bytes line ≡ Shown.done_line events) }
+    ensures { IfOk result (λ line. string_bytes line ≡ Lines.done_line events) }
 {
     Ok(format!(in alloc; "done {events}\n")?)
 }

@@ -4,7 +4,7 @@ ghost use Rattle.mj_prog.specs.Made.{Begins, IsRun, Made};
 ghost use Rattle.mj_prog.specs.Reads.{ReadsNoFurther};
 ghost use Rattle.mj_prog.specs.Running;
 ghost use Rattle.mj_prog.specs.Running.{IsFileRefused, IsFresh, IsHalted, IsUntaken, HaltCause, fault_counts};
-ghost use Rattle.mj_prog.specs.SinkCounts.{AreLater, counted};
+ghost use Rattle.mj_words.specs.SinkCounts.{AreLater, counted};
 ghost use Rattle.mj_prog.specs.declared.halt.Halt;
 ghost use Rattle.mj_prog.specs.declared.halt.StoreFault.{StoreFault as AnyStoreFault};
 ghost use Rattle.mj_serve.specs.Serving.{IsLeftAlone};

@@ -38,7 +38,7 @@ pub struct ScriptPorts<'a, S: Source, K: Sink> {
 
 impl<'a, S: Source, K: Sink> Ports for ScriptPorts<'a, S, K> {
     ghost use Rattle.std.specs.Prelude.{◌+◌, length};
-    ghost use Rattle.mj_prog.specs.SinkCounts.{counted};
+    ghost use Rattle.mj_words.specs.SinkCounts.{counted};
     ghost use Rattle.mj_prog.specs.Standing.{Stands, sink_seen, source_seen};
 
     ghost stand = { λ origin now taken given. Stands (origin.source.ghost_name, origin.sink.ghost_name) (now.source.ghost_name, now.sink.ghost_name) (source_seen (S.left origin.source.now) (S.last origin.source.now) (S.misses origin.source.now) (S.faults origin.source.now)) (source_seen (S.left now.source.now) (S.last now.source.now) (S.misses now.source.now) (S.faults now.source.now)) (sink_seen (K.written origin.sink.now) (counted (K.faults origin.sink.now) (K.wants origin.sink.now))) (sink_seen (K.written now.sink.now) (counted (K.faults now.sink.now) (K.wants now.sink.now))) origin.progress.now now.progress.now now.stage now.wrote taken given };

@@ -1,4 +1,4 @@
-ghost use Rattle.std.specs.Prelude.{ℕ, List, ◌≡◌, ◌↔◌, ◌+◌, ◌⊎◌, ◌^◌, ◌≤◌, [], true, false, None, IfSome, map, take, string_bytes};
+ghost use Rattle.std.specs.Prelude.{ℕ, List, ◌≡◌, ◌↔◌, ◌+◌, ◌⊎◌, ◌^◌, ◌≤◌, [], true, false, None, Some, IfSome, map, take, string_bytes};
 ghost use Rattle.std.specs.Io.KnownBytes.{Appends};
 ghost use Rattle.mj_base.specs.Rising.{Rose};
 ghost use Rattle.mj_base.specs.Writing.{AppendsFront};
@@ -6,27 +6,33 @@ ghost use Rattle.mj_machine.specs.MachineState.{Machine};
 ghost use Rattle.mj_prog.specs.Listing.{IsOpenedAlone, ListingRow, Lists, listed};
 ghost use Rattle.mj_prog.specs.Made.{Begins, Runs};
 ghost use Rattle.mj_prog.specs.Reads.{ReadsNoFurther};
-ghost use Rattle.mj_prog.specs.ReplayTable.{AnswersFor, AppendsLine, IsCutByStore, IsCutOff, IsDone, IsRefused, IsUnread, IsUnwritten};
+ghost use Rattle.mj_prog.specs.ReplayTable.{AnswersFor, IsCutByStore, IsCutOff, IsDone, IsRefused, IsUnread, IsUnwritten};
+ghost use Rattle.mj_words.specs.Lines.{AppendsLine, fault_words};
 ghost use Rattle.mj_prog.specs.Running.{fault_counts};
 ghost use Rattle.mj_prog.specs.Script.{script};
-ghost use Rattle.mj_prog.specs.Shown.{fault_disk, fault_words};
-ghost use Rattle.mj_prog.specs.SinkCounts.{counted};
+ghost use Rattle.mj_prog.specs.Shown.{fault_disk};
+ghost use Rattle.mj_words.specs.SinkCounts.{counted};
 ghost use Rattle.mj_prog.specs.StatusRows.{IsFileRow, IsRefusedFile, IsRow, IsUnopened, StatusCause};
 ghost use Rattle.mj_prog.specs.Statuses.{IsStatus};
-ghost use Rattle.mj_prog.specs.Words.{asks_for_tickets, command_in, has_file, options_in};
+ghost use Rattle.mj_prog.specs.Words.{AskForNothing, asks_for_tickets, command_in, has_file, options_in, tool_in};
 ghost use Rattle.mj_prog.specs.declared.status.Status;
+ghost use Rattle.mj_prog.specs.declared.words.Tool;
 ghost use Rattle.mj_serve.specs.Serving.{IsLeftAlone};
+ghost use Rattle.mj_show.specs.Helping.{Helps};
+ghost use Rattle.mj_show.specs.Showing.{Shows};
 ghost use Rattle.mj_store.specs.Opening.{NoneLawful};
 ghost use Rattle.mj_store.specs.Standing.{IsTelling};
 
-use super::finish::{complain, finish};
+use super::finish::finish;
 use super::listing::list_tickets;
 use super::progress::Progress;
 use super::run::run_script;
 use super::status::{Status, code};
-use super::words::{Command, Options, read_words};
+use super::words::{Command, Options, Tool, read_tool, read_words};
 use mj_base::{Sink, Source};
 use mj_disk::Disk;
+use mj_show::{help, show};
+use mj_words::complain;
 use std::alloc::Global;
 
 /// Bytes of a script that are read at most.
@@ -34,7 +40,8 @@ const SCRIPT_BYTES: u64 = 1 << 40;
 
 /// Does what the words say, which are those behind the program's name. `- replay`, with its options, reads a script from the
 /// source and prints what the broker does without a store; `FILE replay` does so with the tickets of the file that the disk is.
-/// `FILE tickets` prints the file's open tickets. The answer is the status that the program exits with.
+/// `FILE tickets` prints the file's open tickets, `- show` what the stream of the source says, and `help` the names of the
+/// commands. The answer is the status that the program exits with.
 pub fn tool<S: Source, D: Disk, K: Sink>(
     alloc: Global,
     words: &[String],
@@ -43,7 +50,7 @@ pub fn tool<S: Source, D: Disk, K: Sink>(
     out: &mut K,
 ) -> u8
     ensures statuses { IsStatus result }
-    ensures words { (result ≡ 1) ↔ (command_in (map string_bytes words.now) ≡ None) }
+    ensures words { (result ≡ 1) ↔ AskForNothing (map string_bytes words.now) }
     ensures refused_words { result ≡ 1 → (src.new ≡ src.old) × (disk.new ≡ disk.old) × AppendsLine (K.written out.old) (K.written out.new) (counted (K.faults out.old) (K.wants out.old)) (counted (K.faults out.new) (K.wants out.new)) [] fault_words }
 
     // A replay: what is printed is what the machine does, without a store or with the commands as which the file opens; and what
@@ -73,11 +80,19 @@ pub fn tool<S: Source, D: Disk, K: Sink>(
     ensures lists_front { asks_for_tickets (map string_bytes words.now) ≡ true → (result ≡ 4) ⊎ (result ≡ 7) → Lists (D.told disk.old) (λ tickets. AppendsFront (K.written out.old) (K.written out.new) (listed tickets)) }
     ensures lists_all { asks_for_tickets (map string_bytes words.now) ≡ true → ¬ Rose (K.faults out.old) (K.faults out.new) → ¬ Rose (D.faults disk.old) (D.faults disk.new) → Lists (D.told disk.old) (λ tickets. (result ≡ 0) ⊎ (result ≡ 4)) }
     ensures opened_alone { asks_for_tickets (map string_bytes words.now) ≡ true → (src.new ≡ src.old) × IsOpenedAlone D.Disk disk.old disk.new }
+
+    // What needs no broker: the names of the commands, and what a stream says.
+    ensures helps { tool_in (map string_bytes words.now) ≡ Some Tool.Help → (src.new ≡ src.old) × (disk.new ≡ disk.old) × Helps (K.written out.old) (K.written out.new) (K.faults out.old) (K.faults out.new) result }
+    ensures shows { tool_in (map string_bytes words.now) ≡ Some Tool.Show → (disk.new ≡ disk.old) × Shows (S.left src.old) (S.left src.new) (S.faults src.old) (S.faults src.new) (K.written out.old) (K.written out.new) (counted (K.faults out.old) (K.wants out.old)) (counted (K.faults out.new) (K.wants out.new)) result }
 {
-    code(run_tool(alloc, words, src, disk, out))
+    match read_tool(words) {
+        Some(Tool::Help) => help(out),
+        Some(Tool::Show) => show(alloc, src, out),
+        None => code(run_command(alloc, words, src, disk, out)),
+    }
 }
 
-fn run_tool<S: Source, D: Disk, K: Sink>(
+fn run_command<S: Source, D: Disk, K: Sink>(
     alloc: Global,
     words: &[String],
     src: &mut S,

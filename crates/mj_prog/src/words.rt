@@ -1,10 +1,11 @@
 ghost use Rattle.std.specs.Prelude.{◌≡◌, ◌≤◌, [], IfSome, map, string_bytes, codes, replicate};
 ghost use Rattle.mj_prog.specs.Words;
-ghost use Rattle.mj_prog.specs.Words.{command_at, command_in, options_for, options_of, replay_in, tickets_in, values_of, once_or, lanes_of, seed_of};
+ghost use Rattle.mj_prog.specs.Words.{command_at, command_in, options_for, options_of, replay_in, seed_of, tickets_in, tool_in};
 ghost use Rattle.mj_prog.specs.FoundValue.{IsFound, found_after};
+ghost use Rattle.mj_words.specs.Options.{number_between, once_or, values_of};
 
-use super::number::read_number;
 use hex::FromHex;
+use mj_words::{are_options, read_option};
 
 /// The options of a replay.
 #[derive(Clone, Copy)]
@@ -17,7 +18,16 @@ pub struct Options {
     pub seed: [u8; 32],
 }
 
-/// What the words ask for.
+/// What the words ask for that needs no broker.
+#[derive(Clone, Copy)]
+pub enum Tool {
+    /// The commands are named.
+    Help,
+    /// What a stream says is shown.
+    Show,
+}
+
+/// What the words ask for that is done with the broker or its store.
 #[derive(Clone, Copy)]
 pub enum Command {
     /// A script's events are run through the broker.
@@ -37,7 +47,18 @@ enum Found {
     Twice,
 }
 
-/// What the words ask for; None where they aren't of this program. The words are those behind the
+/// The tool that the words ask for: `help` alone, or `- show`.
+pub fn read_tool(words: &[String]) -> Option<Tool>
+    ensures { result ≡ tool_in (map string_bytes words.now) }
+{
+    match words {
+        [word] if word.as_str() == "help" => Some(Tool::Help),
+        [place, word] if place.as_str() == "-" && word.as_str() == "show" => Some(Tool::Show),
+        _ => None,
+    }
+}
+
+/// What the words ask for of the broker or its store; None where they ask for nothing of it. The words are those behind the
 /// program's name.
 pub fn read_words(words: &[String]) -> Option<Command>
     ensures exact { result ≡ command_in (map string_bytes words.now) }
@@ -97,7 +118,7 @@ fn read_options(stored: bool, words: &[String]) -> Option<Options>
     ensures exact { result ≡ options_of stored (map string_bytes words.now) }
     ensures few { IfSome result (λ options. options.lanes ≤ 64) }
 {
-    if !are_options(words) {
+    if !are_options(words, "--lanes", "--seed", "--seed") {
         return None;
     }
     match (read_lanes(words), read_seed(words)) {
@@ -110,43 +131,14 @@ fn read_options(stored: bool, words: &[String]) -> Option<Options>
     }
 }
 
-/// Whether the words are options, each a name and a value.
-fn are_options(words: &[String]) -> bool
-    ensures { result ≡ Words.are_options (map string_bytes words.now) }
-{
-    for option in 0..words.len() / 2 {
-        if !is_option(words[2 * option].as_str()) {
-            return false;
-        }
-    }
-    words.len() % 2 == 0
-}
-
-fn is_option(name: &str) -> bool
-    ensures { result ≡ Words.is_option name.now }
-{
-    name == "--lanes" || name == "--seed"
-}
-
+/// How many lanes a script may name, 1 to 64.
 fn read_lanes(words: &[String]) -> Option<u32>
-    ensures exact { result ≡ once_or 64 lanes_of (values_of (codes "--lanes") (map string_bytes words.now)) }
+    ensures exact { result ≡ once_or 64 (number_between 1 64) (values_of (codes "--lanes") (map string_bytes words.now)) }
     ensures few { IfSome result (λ lanes. lanes ≤ 64) }
 {
-    match find_value(words, "--lanes") {
-        Found::Nowhere => Some(64),
-        Found::At(place) => lane_count(words[place].as_bytes()),
-        Found::Twice => None,
-    }
-}
-
-/// A number of lanes, 1 to 64.
-fn lane_count(text: &[u8]) -> Option<u32>
-    ensures exact { result ≡ lanes_of text.now }
-    ensures few { IfSome result (λ lanes. lanes ≤ 64) }
-{
-    match read_number(text) {
-        Some(number) if 1 <= number && number <= 64 => Some(number as u32),
-        _ => None,
+    match read_option(words, "--lanes", 64, 1, 64) {
+        Some(lanes) => Some(lanes as u32),
+        None => None,
     }
 }
 

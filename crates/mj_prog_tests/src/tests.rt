@@ -128,10 +128,25 @@ fn lane_1_of_two_opens(rt: HostRuntime) -> Result<(), Fail> {
     Ok(())
 }
 
+const TOOLS: &str = "\
+help: stop|: 0 commands help replay tickets show broker client worker compact
+- show: : 0 done 0
+";
+
+#[test]
+fn tools_need_no_broker(rt: HostRuntime) -> Result<(), Fail> {
+    assert!(rt; first_wrong_call(rt.alloc(), TOOLS)? == None);
+    Ok(())
+}
+
 const FAULTY_WORDS: &str = "\
 : stop|: 1 fault words
 -: stop|: 1 fault words
-- show: stop|: 1 fault words
+- show x: stop|: 1 fault words
+a show: stop|: 1 fault words
+show -: stop|: 1 fault words
+help x: stop|: 1 fault words
+- help: stop|: 1 fault words
 - replay x: stop|: 1 fault words
 - replay --: stop|: 1 fault words
 --tickets replay: stop|: 1 fault words

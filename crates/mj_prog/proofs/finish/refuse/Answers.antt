@@ -1,7 +1,7 @@
 use Rattle.std.proofs.Common.{List, ℕ, subst, ◌∙◌}
 use Rattle.mj_prog.specs.Made.{printed}
-use Rattle.mj_prog.specs.ReplayTable.{AppendsLine}
-use Rattle.mj_prog.specs.SinkCounts.{counted}
+use Rattle.mj_words.specs.Lines.{AppendsLine}
+use Rattle.mj_words.specs.SinkCounts.{counted}
 use Rattle.mj_prog.proofs.Rows.{row-unmade}
 use Rattle.mj_prog.proofs.finish.refuse.Goals as goal
 

@@ -1,7 +1,7 @@
 use Rattle.std.proofs.Common.{[], refl, subst, sym, arith}
 use Rattle.std.proofs.KnownBytes.{Appends-nil}
 use Rattle.mj_journal.specs.declared.fault.OpenFault.{OpenFault}
-use Rattle.mj_prog.specs.SinkCounts.{counted}
+use Rattle.mj_words.specs.SinkCounts.{counted}
 use Rattle.mj_prog.specs.StatusRows.{RefusesOpening}
 use Rattle.mj_prog.specs.declared.status.Status.TheVariants as statuses
 use Rattle.mj_prog.proofs.finish.refuse_opening.Goals as goal

@@ -1,7 +1,7 @@
 use Rattle.std.proofs.Common.{List, ℕ, [], subst, inl, refl, ◌∙◌, arith}
 use Rattle.std.proofs.KnownBytes.{Appends-nil}
-use Rattle.mj_prog.specs.ReplayTable.{AppendsLine}
-use Rattle.mj_prog.specs.SinkCounts.{counted}
+use Rattle.mj_words.specs.Lines.{AppendsLine}
+use Rattle.mj_words.specs.SinkCounts.{counted}
 use Rattle.mj_prog.proofs.Rows.{row-store}
 use Rattle.mj_prog.proofs.finish.refuse_store.Goals as goal
 

@@ -9,7 +9,7 @@ use Rattle.mj_store.specs.Standing.{IsTelling}
 use Rattle.mj_prog.specs.Made.{IsRun, Made}
 use Rattle.mj_prog.specs.Reads.{ReadsNoFurther}
 use Rattle.mj_prog.specs.Running.{HaltCause, IsHalted, IsUntaken, events_of, fault_counts, halt_by}
-use Rattle.mj_prog.specs.SinkCounts.{AreLater, counted}
+use Rattle.mj_words.specs.SinkCounts.{AreLater, counted}
 use Rattle.mj_prog.specs.Standing.{Stands, sink_seen, source_seen}
 use Rattle.mj_prog.specs.declared.halt.Halt.{Halt}
 use Rattle.mj_prog.proofs.Runs.{cause-of, disk-halt, fault-of, ran-all, store-halt, untaken}

@@ -1,8 +1,8 @@
 use Rattle.std.proofs.Common.{ℕ, List, [], subst}
-use Rattle.mj_prog.specs.ReplayTable.{AppendsLine}
+use Rattle.mj_words.specs.Lines.{AppendsLine}
 use Rattle.mj_prog.specs.Running.{fault_counts}
 use Rattle.mj_prog.specs.Shown.{fault_disk, store_line}
-use Rattle.mj_prog.specs.SinkCounts.{counted}
+use Rattle.mj_words.specs.SinkCounts.{counted}
 use Rattle.mj_prog.proofs.StatusLaws.{file-by}
 use Rattle.mj_prog.proofs.top_call.replay.Goals as goal
 

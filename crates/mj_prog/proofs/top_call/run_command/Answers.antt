@@ -1,7 +1,7 @@
 use Rattle.std.proofs.Common.{[], refl, arith}
 use Rattle.std.proofs.KnownBytes.{Appends-nil}
 use Rattle.mj_prog.proofs.Untouched.{alone-untouched}
-use Rattle.mj_prog.proofs.top_call.run_tool.Goals as goal
+use Rattle.mj_prog.proofs.top_call.run_command.Goals as goal
 
 pub returns-in-None-clause-refused_words : goal.returns-in-None-clause-refused_words
 returns-in-None-clause-refused_words g c = λ _.

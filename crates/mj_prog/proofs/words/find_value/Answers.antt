@@ -1,7 +1,7 @@
 use Rattle.std.proofs.Common.{◌≡◌, ◌+◌, ◌*◌, ◌/◌, [], length, get_or, map, string_bytes, drop, ℕ, List, ap, sym, ◌∙◌, subst, arith}
 use Rattle.std.specs.Str.{bytes_eq}
 use Rattle.mj_prog.specs.declared.words.Found.{Found}
-use Rattle.mj_prog.specs.Words.{values_of}
+use Rattle.mj_words.specs.Options.{values_of}
 use Rattle.mj_prog.specs.FoundValue.{IsFound}
 use Rattle.mj_prog.proofs.OptionLaws.{word-at, option-inside, found-step, found-other, found-end}
 use Rattle.mj_prog.proofs.words.find_value.Goals as goal

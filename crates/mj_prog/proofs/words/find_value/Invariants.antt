@@ -1,5 +1,5 @@
 use Rattle.std.proofs.Common.{◌*◌, map, string_bytes, drop}
-use Rattle.mj_prog.specs.Words.{values_of}
+use Rattle.mj_words.specs.Options.{values_of}
 use Rattle.mj_prog.specs.FoundValue.{IsFound}
 use Rattle.mj_prog.proofs.words.find_value.Given as goal
 

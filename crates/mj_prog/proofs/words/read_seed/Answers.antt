@@ -1,5 +1,6 @@
 use Rattle.std.proofs.Common.{map, string_bytes, codes, replicate}
-use Rattle.mj_prog.specs.Words.{values_of, seed_of}
+use Rattle.mj_prog.specs.Words.{seed_of}
+use Rattle.mj_words.specs.Options.{values_of}
 use Rattle.mj_prog.proofs.OptionLaws.{once-twice}
 use Rattle.mj_prog.proofs.words.read_seed.Goals as goal
 
