@@ -1,16 +1,12 @@
 -- Laws of what is printed.
-use Rattle.std.proofs.Common.{◌≡◌, ◌≤◌, ◌+◌, ℕ, List, [], ◌∷◌, ◌++◌, length, take, drop, Option, inl, inr, refl, sym, ap, ◌∙◌, subst, append_assoc, arith, take-append-drop}
+use Rattle.std.proofs.Common.{◌≡◌, ◌≤◌, ℕ, List, [], ◌∷◌, ◌++◌, length, take, drop, Option, refl, sym, ap, ◌∙◌, subst, append_assoc, arith, take-append-drop}
 use Rattle.std.proofs.Math.Seq.{take-append_seam}
 use Rattle.std.specs.Io.KnownBytes.{Appends}
-use Rattle.std.proofs.KnownBytes.{Appends-trans, Appends-kept}
+use Rattle.std.proofs.KnownBytes.{Appends-trans}
 use Rattle.mj_base.specs.Rising.{Rose}
-use Rattle.mj_base.specs.Writing.{AppendsFront, WriteAdds, WriteCause, WantCause}
+use Rattle.mj_base.specs.Writing.{AppendsFront}
 use Rattle.mj_base.specs.declared.event.Out.{Out}
-use Rattle.mj_base.specs.declared.sink.WriteAnswer.{WriteAnswer}
-use Rattle.mj_base.specs.declared.sink.WriteAnswer.TheVariants as writes
 use Rattle.mj_prog.specs.Shown.{shown, line_of_out}
-use Rattle.mj_words.specs.Lines.{AppendsLine}
-use Rattle.mj_words.specs.SinkCounts.{SinkCounts, AreLater}
 
 pub shown-append : (first second : List Out) → shown (first ++ second) ≡ shown first ++ shown second
 shown-append [] second = refl

@@ -1,5 +1,5 @@
 -- The words of the program, which are those behind its name.
-use Rattle.std.specs.Prelude.{ℕ, ◌≡◌, ◌&&◌, ◌||◌, Bool, true, false, not, nat_eq, nat_le, nat_lt, length, List, [], ◌∷◌, Option, Some, None, if◌then◌else◌, codes, replicate}
+use Rattle.std.specs.Prelude.{ℕ, ◌≡◌, ◌&&◌, ◌||◌, Bool, true, false, not, nat_eq, nat_lt, length, List, [], ◌∷◌, Option, Some, None, if◌then◌else◌, codes, replicate}
 use Rattle.std.specs.List.{starts_with}
 use Rattle.std.specs.Str.{bytes_eq}
 use Rattle.hex.specs.Hex.{decode_sized}
