@@ -126,10 +126,13 @@ enum Turn {
 
 /// Takes what waits, as far as it fits into one batch, and writes of it what goes without waiting.
 fn write_once<R: Wait, K: PieceSink + Drop>(exit: &mut Exit<R, K>) -> Turn {
+    if exit.left.is_some() {
+        return Turn::Over;
+    }
     let Some(sink) = &mut exit.sink else {
         return Turn::Over;
     };
-    let left = write_ready(&mut exit.pass, sink);
+    let left = write_batch(&mut exit.pass, sink);
     if !is_done(&exit.pass, &left) {
         exit.left = Some(left);
         return Turn::Left;
@@ -142,6 +145,13 @@ fn write_once<R: Wait, K: PieceSink + Drop>(exit: &mut Exit<R, K>) -> Turn {
         return Turn::Over;
     }
     Turn::Again
+}
+
+/// Takes what waits, and writes of it what goes without waiting.
+fn write_batch<R: Wait, K: PieceSink>(pass: &mut WriterPass<R>, sink: &mut K) -> Left
+    ensures { (result.told ≤ result.whole) × (result.whole ≤ length pass.new.held) }
+{
+    write_ready(pass, sink)
 }
 
 /// Writes what is left of a connection up to its end; false where no connection will come.

@@ -1,4 +1,4 @@
-ghost use Rattle.std.specs.Prelude.{◌≤◌, None, length};
+ghost use Rattle.std.specs.Prelude.{◌≡◌, ◌≤◌, None, length};
 
 use mj_base::{Octets, Sink, WriteAnswer};
 use mj_lanes::{PieceSink, Progress};
@@ -38,7 +38,9 @@ impl SocketSink {
     }
 
     /// From now on a write waits, for ten seconds at most.
-    fn wait(&mut self) {
+    fn wait(&mut self)
+        ensures { self.new.faults ≡ self.old.faults }
+    {
         if !self.patient {
             self.patient = true;
             let _ = self

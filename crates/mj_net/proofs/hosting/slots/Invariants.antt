@@ -5,4 +5,4 @@ abbrev pub invariant-loop-writer : goal.invariant-loop-writer
 invariant-loop-writer g l = vec_len l.slots + vec_len l.writers ≡ vec_len l.fn.writers
 
 abbrev pub decreases-loop-writer : goal.decreases-loop-writer
-decreases-loop-writer g l = goal.left-loop-writer g l
+decreases-loop-writer g l = vec_len l.writers
