@@ -72,7 +72,14 @@ pub fn open<T: Drop, K: Keyed<T>>(
 {
     let bell = Arc::new(alloc, Bell::new())?;
     let (line, channel, pass) = bounded_with(alloc, capacity)?;
-    Ok((line, TakeEnd { channel, pass, bell }))
+    Ok((
+        line,
+        TakeEnd {
+            channel,
+            pass,
+            bell,
+        },
+    ))
 }
 
 impl<T: Drop, K: Keyed<T>> SendEnd<T, K> {
@@ -91,7 +98,10 @@ impl<T: Drop, K: Keyed<T>> SendEnd<T, K> {
         requires { K.from item ≡ self.old.from }
         ensures { self.new ≡ record self.old { sent = self.old.sent ++ item ∷ [] } }
     {
-        match self.line.try_send_as::<Sending, R>(rt, &mut self.pass, item) {
+        match self
+            .line
+            .try_send_as::<Sending, R>(rt, &mut self.pass, item)
+        {
             Ok(()) => {}
             Err(TrySendError::Full(item)) => {
                 self.bell.ring();
@@ -118,7 +128,10 @@ impl<T: Drop, K: Keyed<T>> SendEnd<T, K> {
         ensures sent { result ≡ true → self.new ≡ record self.old { sent = self.old.sent ++ item ∷ [] } }
         ensures same { result ≡ false → self.new ≡ self.old }
     {
-        match self.line.try_send_as::<Sending, R>(rt, &mut self.pass, item) {
+        match self
+            .line
+            .try_send_as::<Sending, R>(rt, &mut self.pass, item)
+        {
             Ok(()) => true,
             Err(_) => false,
         }

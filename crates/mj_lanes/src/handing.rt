@@ -92,11 +92,7 @@ fn drop_unless<R: Wait + Copy>(pass: &mut WriterPass<R>, marked: bool)
 }
 
 /// Tells what is written whole and wasn't told, and writes and tells the others that the pass holds.
-fn finish<R: Wait, K: Sink>(
-    pass: &mut WriterPass<R>,
-    left: &Left,
-    sink: &mut K,
-) -> WriteAnswer
+fn finish<R: Wait, K: Sink>(pass: &mut WriterPass<R>, left: &Left, sink: &mut K) -> WriteAnswer
     requires { (left.now.told ≤ left.now.whole) × (left.now.whole ≤ length pass.old.held) }
     ensures pass { (pass.new.inbox ≡ pass.old.inbox) × (pass.new.lane ≡ pass.old.lane) × (pass.new.outlet ≡ pass.old.outlet) }
     ensures writes { (marked : Bool) (taken : List AnItem) (sent : List AnEvent) (out : Option (List ℕ)) → Handed pass.old.lane marked pass.old.held left.now.whole left.now.at left.now.told taken pass.old.taken sent pass.old.sent out (K.written sink.old) → FinishedUntil result pass.old.lane marked pass.old.held taken pass.new.taken sent pass.new.sent out (K.written sink.new) }

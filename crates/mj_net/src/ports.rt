@@ -7,10 +7,10 @@ ghost use Rattle.mj_net.specs.Passing.{AreNewPorts, Act, PortsState, ended, most
 ghost use Rattle.mj_net.specs.Standing.{Stands};
 ghost use Rattle.mj_serve.specs.Given.{is_stop};
 
-use mj_base::{Event, NoMemory, Note, Octets, Reason};
-use mj_disk::Disk;
 use super::slot::Slot;
 use super::unwritten::Unwritten;
+use mj_base::{Event, NoMemory, Note, Octets, Reason};
+use mj_disk::Disk;
 use mj_lanes::{HubPass, PieceSink};
 use mj_serve::Ports;
 use std::alloc::Global;
@@ -96,6 +96,9 @@ impl<R: Wait + Copy + Drop, K: PieceSink + Drop> NetPorts<R, K> {
         );
         self.taken += 1;
         self.follow(&event);
+        if self.stopped {
+            write_out(&self.rt, self.slots.as_slice(), &mut self.unwritten);
+        }
         event
     }
 
