@@ -4,7 +4,7 @@ use Rattle.std.specs.List.{concat}
 use Rattle.std.specs.Io.KnownBytes.{Appends}
 use Rattle.std.proofs.KnownBytes.{Appends-trans}
 use Rattle.std.proofs.Math.Seq.{drop-cons, take-append-add, take-suc}
-use Rattle.std.proofs.lemmas.List.{length-take-le, map-append, replicate-append-replicate, take-append-drop, take-append-le, take_all, take_min}
+use Rattle.std.proofs.lemmas.List.{length-take-le, replicate-append-replicate, take-append-drop, take-append-le, take_all, take_min}
 use Rattle.std.proofs.lemmas.List.Folds.{concat-append}
 use Rattle.mj_base.specs.Writing.{AppendsFront}
 use Rattle.mj_base.specs.declared.event.Event.{Event}

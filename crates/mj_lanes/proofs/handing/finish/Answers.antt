@@ -1,5 +1,3 @@
-use Rattle.std.proofs.Common.{ap}
-use Rattle.mj_lanes.specs.Passes.{WriterState}
 use Rattle.mj_lanes.proofs.Leftovers.{finish-held}
 use Rattle.mj_lanes.proofs.handing.finish.Goals as goal
 

@@ -1,4 +1,4 @@
-use Rattle.std.proofs.Common.{◌≡◌, ◌≤◌, ℕ, Bool, List, length, Option}
+use Rattle.std.proofs.Common.{◌≡◌, ◌≤◌, ℕ, Bool, List, Option}
 use Rattle.mj_base.specs.declared.event.Event.{Event}
 use Rattle.mj_lanes.specs.declared.outlet.Item.{Item}
 use Rattle.mj_lanes.specs.WriteSteps.{Handed}

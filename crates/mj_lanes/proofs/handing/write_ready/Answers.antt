@@ -1,5 +1,3 @@
-use Rattle.std.proofs.Common.{ap, ◌∙◌}
-use Rattle.mj_lanes.specs.Passes.{WriterState}
 use Rattle.mj_lanes.proofs.Leftovers.{ready-handed}
 use Rattle.mj_lanes.proofs.handing.write_ready.Goals as goal
 
