@@ -7,7 +7,8 @@ use mj_base::{NoMemory, Octets, Sink};
 use mj_disk::{Disk, FileDisk, MemoryDisk};
 use mj_host::broker;
 use mj_net::{
-    Door, DoorFailed, HostFault, NetPorts, StdClock, StdDesk, StdDoor, StdSpawner, Work, host,
+    Door, DoorFailed, HostFault, NetPorts, SocketSink, StdClock, StdDesk, StdDoor, StdSpawner,
+    Work, host,
 };
 use std::alloc::Global;
 use std::io::Write;
@@ -131,7 +132,7 @@ where
     let mut spawner = StdSpawner::new(|work: Work<R, StdDesk<R>, StdClock<R>>| {
         thread::spawn(&rt, move || work.run()).is_ok()
     });
-    let hub = |ports: &mut NetPorts<R>| -> u8
+    let hub = |ports: &mut NetPorts<R, SocketSink>| -> u8
         requires { AreNewPorts lanes ports.old × (lanes ≤ 64) }
     {
         // The condition speaks of the lanes.

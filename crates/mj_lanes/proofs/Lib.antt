@@ -2,3 +2,4 @@ mod Steps
 mod Families
 mod Outlets
 mod Loops
+mod Leftovers

@@ -20,7 +20,7 @@ pub rose_since : (a b c : ℕ) → a ≤ b → Rose b c → Rose a c
 rose_since a b c le h = omega arith
 
 -- a list that grows twice by images
-mapped_twice : {A B : Type 0} (f : A → B) (l m n : List B) (xs ys : List A) → m ≡ l ++ map f xs → n ≡ m ++ map f ys → n ≡ l ++ map f (xs ++ ys)
+pub mapped_twice : {A B : Type 0} (f : A → B) (l m n : List B) (xs ys : List A) → m ≡ l ++ map f xs → n ≡ m ++ map f ys → n ≡ l ++ map f (xs ++ ys)
 mapped_twice f l m n xs ys e e' = e' ∙ ap (λ k. k ++ map f ys) e ∙ append_assoc l (map f xs) (map f ys) ∙ ap (λ k. l ++ k) (sym (map-append f xs ys))
 
 pub reads_none : (lane : ℕ) (sent : List Event) (left : Option (List ℕ)) → Reads lane sent sent left left

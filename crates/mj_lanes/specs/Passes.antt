@@ -11,13 +11,14 @@ pub record ReaderState : Type 0 where
   pub lane : ℕ
   pub sent : List Event
 
--- a lane's writer: what it sent, its lane's outlet, and what it took there
+-- a lane's writer: what it sent, its lane's outlet, what it took there, and the pieces that it took last and together
 pub record WriterState : Type 0 where
   pub inbox : Name Event
   pub lane : ℕ
   pub sent : List Event
   pub outlet : Name Item
   pub taken : List Item
+  pub held : List (List ℕ)
 
 -- the ticker: its inbox, and what it sent
 pub record TickerState : Type 0 where
@@ -44,7 +45,7 @@ abbrev pub new_reader : Name Event → ℕ → ReaderState
 new_reader inbox lane = record { inbox = inbox; lane = lane; sent = [] }
 
 abbrev pub new_writer : Name Event → ℕ → Name Item → WriterState
-new_writer inbox lane outlet = record { inbox = inbox; lane = lane; sent = []; outlet = outlet; taken = [] }
+new_writer inbox lane outlet = record { inbox = inbox; lane = lane; sent = []; outlet = outlet; taken = []; held = [] }
 
 abbrev pub new_outlet : Name Item → OutletState
 new_outlet name = record { name = name; put = [] }

@@ -1,4 +1,4 @@
-ghost use Rattle.std.specs.Prelude.{◌≡◌, ◌+◌, ◌*◌, ◌<◌, ℕ, List, [], ◌∷◌, ◌++◌, length, IfOk};
+ghost use Rattle.std.specs.Prelude.{◌≡◌, ◌+◌, ◌*◌, ◌<◌, ℕ, List, [], ◌∷◌, ◌++◌, length, IfOk, IfSome, IfNone};
 ghost use Rattle.crossbeam_channel.specs.Ends.{sends_on};
 ghost use Rattle.mj_base.specs.EventBounds.{IsWithin};
 ghost use Rattle.mj_base.specs.declared.event.Event.{Event};
@@ -6,6 +6,7 @@ ghost use Rattle.mj_lanes.specs.declared.outlet.Item.TheVariants as item;
 ghost use Rattle.mj_lanes.specs.Ends.{name_of};
 ghost use Rattle.mj_lanes.specs.Passes.{OutletState, Puts, new_reader, new_writer, new_outlet};
 
+use super::batch::Batch;
 use super::ends::{Line, TakeEnd, open};
 use super::entry::{BySender, Entry};
 use super::outlet::{Item, Outlet};
@@ -50,7 +51,8 @@ impl<R: Copy + Drop> HubPass<R> {
         ensures { IfOk result (λ r. (r.0 ≡ record { inbox = name_of (sends_on r.1); taken = []; outlets = [] }) × (r.2 ≡ record { inbox = r.0.inbox; sent = [] })) }
     {
         let (line, mut inbox) = open(alloc, INBOX_ENTRIES)?;
-        let ticks = TickPass::new(rt, inbox.make(line.try_clone()?));
+        let bell = inbox.bell()?;
+        let ticks = TickPass::new(rt, inbox.make(line.try_clone()?, bell));
         let outlets = Vec::new(alloc);
         Ok((HubPass { rt, inbox, outlets }, line, ticks))
     }
@@ -71,10 +73,16 @@ impl<R: Copy + Drop> HubPass<R> {
     {
         let for_reader = line.try_clone()?;
         let for_writer = line.try_clone()?;
+        let reader_bell = self.inbox.bell()?;
+        let writer_bell = self.inbox.bell()?;
+        let held = Batch::new(alloc)?;
         let (pieces, mut taker) = open(alloc, OUTLET_ITEMS)?;
-        self.outlets.push(Outlet::new(taker.make(pieces)))?;
-        let reader = LanePass::new(rt, lane, self.inbox.make(for_reader));
-        let writer = WriterPass::new(rt, lane, self.inbox.make(for_writer), taker);
+        let outlet_bell = taker.bell()?;
+        self.outlets
+            .push(Outlet::new(taker.make(pieces, outlet_bell)))?;
+        let reader = LanePass::new(rt, lane, self.inbox.make(for_reader, reader_bell));
+        let end = self.inbox.make(for_writer, writer_bell);
+        let writer = WriterPass::new(rt, lane, end, taker, held);
         Ok((reader, writer))
     }
 }
@@ -87,6 +95,18 @@ impl<R: Wait> HubPass<R> {
         ensures within { IsWithin (length self.old.outlets) result }
     {
         self.inbox.take(&self.rt).into_event()
+    }
+
+    /// Takes the entry at the front of the inbox, if there is one now.
+    pub fn poll(&mut self) -> Option<Event>
+        ensures taken { IfSome result (λ event. self.new ≡ record self.old { taken = self.old.taken ++ event ∷ [] }) }
+        ensures within { IfSome result (λ event. IsWithin (length self.old.outlets) event) }
+        ensures none { IfNone result (self.new ≡ self.old) }
+    {
+        match self.inbox.poll(&self.rt) {
+            Some(entry) => Some(entry.into_event()),
+            None => None,
+        }
     }
 
     /// Takes and drops entries until all senders are gone: for a hub whose other passes are dropped.

@@ -74,7 +74,7 @@ fn write_piece<R: Wait, K: Sink>(
 }
 
 /// Takes and drops pieces, up to and with the end mark.
-fn drop_pieces<R: Wait + Copy>(pass: &mut WriterPass<R>)
+pub(crate) fn drop_pieces<R: Wait + Copy>(pass: &mut WriterPass<R>)
     ensures pass { (pass.new.inbox ≡ pass.old.inbox) × (pass.new.lane ≡ pass.old.lane) × (pass.new.outlet ≡ pass.old.outlet) }
     ensures sent { pass.new.sent ≡ pass.old.sent }
     ensures taken { Drops pass.old.taken pass.new.taken }

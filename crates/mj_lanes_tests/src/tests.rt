@@ -3,7 +3,7 @@ ghost use Rattle.std.specs.Prelude.{◌≡◌, ◌<◌, None, length};
 use mj_base::{Event, MemorySink, MemorySource, NoMemory, Octets};
 use mj_lanes::{
     Clock, HubPass, LanePass, TickPass, WriterPass, gather, lanes_new, read_loop, tick_loop,
-    write_loop,
+    write_left, write_loop, write_ready,
 };
 use std::alloc::{AllocError, Global};
 use std::sync::Wait;
@@ -318,14 +318,29 @@ fn put_all<R: Wait>(alloc: Global, hub: &mut HubPass<R>) -> Result<(), NoMemory>
     Ok(())
 }
 
+/// Writes up to the end mark; where two write, the first takes what waits, and leaves all of it to the second, since nothing
+/// goes into a sink of memory without waiting.
+fn write_all<R: Wait + Copy>(
+    pass: &mut WriterPass<R>,
+    two_write: bool,
+    sink: &mut MemorySink,
+) -> Result<(), NoMemory> {
+    if two_write {
+        let left = write_ready(pass, sink);
+        return write_left(pass, &left, sink);
+    }
+    write_loop(pass, sink)
+}
+
 /// What the pass's writer writes, and then what is left for the next one, where the write of this number, from 0, fails.
 fn written_over<R: Wait + Copy>(
     alloc: Global,
     pass: &mut WriterPass<R>,
+    two_write: bool,
     failing: u64,
 ) -> Result<Octets, NoMemory> {
     let mut sink = MemorySink::new(alloc, vec![in alloc; failing]?);
-    write_loop(pass, &mut sink)?;
+    write_all(pass, two_write, &mut sink)?;
     let mut written = octets_of(alloc, sink.written())?;
     written.push_all(b" ")?;
     if let Some(piece) = pass.take_piece() {
@@ -338,6 +353,7 @@ fn written_over<R: Wait + Copy>(
 fn write_over<R: Wait + Copy + Drop>(
     rt: R,
     alloc: Global,
+    two_write: bool,
     failing: u64,
 ) -> Result<(Octets, Vec<Event>), NoMemory> {
     let (mut hub, _readers, mut writers, mut ticks) = lanes_new(rt, alloc, 1)?;
@@ -345,20 +361,23 @@ fn write_over<R: Wait + Copy + Drop>(
         unreachable!();
     };
     put_all(alloc, &mut hub)?;
-    let written = written_over(alloc, &mut pass, failing)?;
+    let written = written_over(alloc, &mut pass, two_write, failing)?;
     ticks.stop();
     Ok((written, take_until_stop(alloc, &mut hub)?))
 }
 
 #[test]
 fn a_writer_tells_of_what_was_written_before_a_failure(rt: HostRuntime) -> Result<(), Fail> {
-    for (failing, wanted, text) in [
-        (0, " next", "stop"),
-        (1, "ab next", "sent 0, stop"),
-        (2, "abc next", "sent 0, sent 0, stop"),
-        (3, "abcdef next", "sent 0, sent 0, sent 0, stop"),
+    for (two_write, failing, wanted, text) in [
+        (false, 0, " next", "stop"),
+        (false, 1, "ab next", "sent 0, stop"),
+        (false, 2, "abc next", "sent 0, sent 0, stop"),
+        (false, 3, "abcdef next", "sent 0, sent 0, sent 0, stop"),
+        (true, 0, " next", "stop"),
+        (true, 1, "ab next", "sent 0, stop"),
+        (true, 3, "abcdef next", "sent 0, sent 0, sent 0, stop"),
     ] {
-        let (written, events) = write_over(rt, rt.alloc(), failing)?;
+        let (written, events) = write_over(rt, rt.alloc(), two_write, failing)?;
         let is = shown(rt.alloc(), events.as_slice())?;
         assert!(rt; written.as_slice() == wanted.as_bytes());
         assert!(rt; is.as_str() == text, "{is}");

@@ -1,5 +1,5 @@
 -- Why a host fails, seen from an earlier call.
-use Rattle.std.proofs.Common.{◌≡◌, ◌≤◌, ℕ, Result, Ok, Err, IfErr, arith}
+use Rattle.std.proofs.Common.{◌≤◌, ℕ, Result, Ok, Err, IfErr, arith}
 use Rattle.mj_base.specs.Rising.{Rose}
 use Rattle.mj_net.specs.Hosts.{HostCause}
 use Rattle.mj_net.specs.declared.hosting.HostFault.{HostFault}

@@ -1,7 +1,8 @@
 ghost use Rattle.std.specs.Prelude.{◌≡◌, ◌≤◌, ℕ, IfNone, OnErr};
 ghost use Rattle.mj_base.specs.Rising.{Rose};
 
-use mj_base::{Sink, Source};
+use mj_base::Source;
+use mj_lanes::PieceSink;
 
 /// A call of a door failed.
 #[derive(Clone, Copy, Debug, PartialEq, Eq)]
@@ -11,7 +12,7 @@ pub struct DoorFailed;
 pub trait Desk {
     type In: Source + Send + Drop + 'static;
 
-    type Out: Sink + Send + Drop + 'static;
+    type Out: PieceSink + Send + Drop + 'static;
 
     /// How many calls have failed. It never falls, and stops at its greatest value.
     ghost faults: { Self → ℕ };

@@ -3,13 +3,14 @@ ghost use Rattle.std.specs.Fn.{FnOnceReturnsAtMut, FnOnceTakesAtMut};
 ghost use Rattle.mj_net.specs.Hosts.{HostCause};
 ghost use Rattle.mj_net.specs.Passing.{AreNewPorts, PortsState};
 ghost use Rattle.mj_net.specs.Standing.{Stands};
+ghost use Rattle.mj_net.specs.declared.hosting.HostFault;
 
 use super::door::{Desk, Door};
 use super::lane_work::Work;
 use super::ports::NetPorts;
 use super::slot::Slot;
 use super::spawner::Spawner;
-use mj_lanes::{Clock, HubPass, LanePass, TickPass, WriterPass, lanes_new};
+use mj_lanes::{Clock, HubPass, LanePass, PieceSink, TickPass, WriterPass, lanes_new};
 use std::alloc::Global;
 use std::sync::{Arc, Wait};
 
@@ -32,7 +33,7 @@ pub fn host<
     D: Door,
     C: Clock + Drop,
     T: Spawner<Work<R, D::Desk, C>>,
-    F: FnOnce(&mut NetPorts<R>) -> u8 + Drop,
+    F: FnOnce(&mut NetPorts<R, <D::Desk as Desk>::Out>) -> u8 + Drop,
 >(
     rt: R,
     alloc: Global,
@@ -58,10 +59,11 @@ pub fn host<
     let Ok((pass, readers, writers, ticks)) = lanes_new(rt, alloc, lanes) else {
         return Err(HostFault::NoMemory);
     };
+    let slots = slots(alloc, writers)?;
     start_all(
-        rt, alloc, readers, writers, desks, ticks, clock, until, lanes, spawner,
+        rt, alloc, readers, &slots, desks, ticks, clock, until, lanes, spawner,
     )?;
-    Ok(run_hub(pass, lanes, hub))
+    Ok(run_hub(rt, pass, slots, lanes, hub))
 }
 
 /// A desk for each lane.
@@ -83,12 +85,34 @@ fn desks<D: Door>(alloc: Global, lanes: u32, door: &mut D) -> Result<Vec<D::Desk
     Ok(desks)
 }
 
+/// A slot for each lane, with its writer's pass.
+fn slots<R: Drop, K: Drop>(
+    alloc: Global,
+    mut writers: Vec<WriterPass<R>>,
+) -> Result<Vec<Arc<Slot<R, K>, Global>>, HostFault>
+    ensures length { IfOk result (λ slots. vec_len slots ≡ vec_len writers) }
+    ensures err { IfErr result (λ fault. fault ≡ HostFault.NoMemory) }
+{
+    let mut slots = Vec::new(alloc);
+    while let Some(writer) = writers.pop() {
+        let Ok(slot) = Arc::new(alloc, Slot::new(writer)) else {
+            return Err(HostFault::NoMemory);
+        };
+        match slots.push(slot) {
+            Ok(()) => {}
+            Err(_) => return Err(HostFault::NoMemory),
+        }
+    }
+    slots.reverse();
+    Ok(slots)
+}
+
 /// Starts the works of all lanes, and the ticker's.
 fn start_all<R: Wait + Copy + Drop, D: Desk + Drop, C: Clock + Drop, T: Spawner<Work<R, D, C>>>(
     rt: R,
     alloc: Global,
     mut readers: Vec<LanePass<R>>,
-    mut writers: Vec<WriterPass<R>>,
+    slots: &[Arc<Slot<R, D::Out>, Global>],
     mut desks: Vec<D>,
     ticks: TickPass<R>,
     clock: C,
@@ -97,7 +121,7 @@ fn start_all<R: Wait + Copy + Drop, D: Desk + Drop, C: Clock + Drop, T: Spawner<
     spawner: &mut T,
 ) -> Result<(), HostFault>
     requires ready { T.ready spawner.old }
-    requires lengths { (vec_len readers ≡ lanes) × (vec_len writers ≡ lanes) × (vec_len desks ≡ lanes) }
+    requires lengths { (vec_len readers ≡ lanes) × (length slots.now ≡ lanes) × (vec_len desks ≡ lanes) }
     ensures ok { OnOk result (T.count spawner.new ≡ min (T.count spawner.old + 2 * lanes + 1) (2 ^ 64 - 1)) }
     ensures later { T.faults spawner.old ≤ T.faults spawner.new }
     ensures err { IfErr result (λ fault. (before now : ℕ) → HostCause fault before now (T.faults spawner.old) (T.faults spawner.new)) }
@@ -106,13 +130,10 @@ fn start_all<R: Wait + Copy + Drop, D: Desk + Drop, C: Clock + Drop, T: Spawner<
         let Some(reader) = readers.pop() else {
             unreachable!();
         };
-        let Some(writer) = writers.pop() else {
-            unreachable!();
-        };
         let Some(desk) = desks.pop() else {
             unreachable!();
         };
-        match start_lane(rt, alloc, reader, writer, desk, spawner) {
+        match start_lane(rt, alloc, reader, &slots[readers.len()], desk, spawner) {
             Ok(()) => {}
             Err(fault) => return Err(fault),
         }
@@ -125,7 +146,7 @@ fn start_lane<R: Wait + Copy + Drop, D: Desk + Drop, C: Clock + Drop, T: Spawner
     rt: R,
     alloc: Global,
     reader: LanePass<R>,
-    writer: WriterPass<R>,
+    slot: &Arc<Slot<R, D::Out>, Global>,
     desk: D,
     spawner: &mut T,
 ) -> Result<(), HostFault>
@@ -135,14 +156,11 @@ fn start_lane<R: Wait + Copy + Drop, D: Desk + Drop, C: Clock + Drop, T: Spawner
     ensures later { T.faults spawner.old ≤ T.faults spawner.new }
     ensures err { IfErr result (λ fault. (before now : ℕ) → HostCause fault before now (T.faults spawner.old) (T.faults spawner.new)) }
 {
-    let Ok(slot) = Arc::new(alloc, Slot::new()) else {
+    let (Ok(for_reader), Ok(for_writer)) = (Arc::try_clone(slot), Arc::try_clone(slot)) else {
         return Err(HostFault::NoMemory);
     };
-    let Ok(shared) = Arc::try_clone(&slot) else {
-        return Err(HostFault::NoMemory);
-    };
-    start(spawner, Work::Read(rt, alloc, reader, desk, shared))?;
-    start(spawner, Work::Write(rt, writer, slot))
+    start(spawner, Work::Read(rt, alloc, reader, desk, for_reader))?;
+    start(spawner, Work::Write(rt, for_writer))
 }
 
 /// Starts one work.
@@ -160,8 +178,10 @@ fn start<W, T: Spawner<W>>(spawner: &mut T, work: W) -> Result<(), HostFault>
 }
 
 /// Runs the hub over new ports.
-fn run_hub<R: Wait + Drop, F: FnOnce(&mut NetPorts<R>) -> u8>(
+fn run_hub<R: Wait + Copy + Drop, K: PieceSink + Drop, F: FnOnce(&mut NetPorts<R, K>) -> u8>(
+    rt: R,
     pass: HubPass<R>,
+    slots: Vec<Arc<Slot<R, K>, Global>>,
     lanes: u32,
     hub: F,
 ) -> u8
@@ -171,11 +191,11 @@ fn run_hub<R: Wait + Drop, F: FnOnce(&mut NetPorts<R>) -> u8>(
     requires hub { (ports : PortsState) → AreNewPorts lanes ports → FnOnceTakesAtMut F.FnOnce hub ports }
     ensures { (before after : PortsState) × FnOnceReturnsAtMut F.FnOnce hub before result after × AreNewPorts lanes before × Stands before before [] [] }
 {
-    let mut ports = NetPorts::new(pass, lanes);
+    let mut ports = NetPorts::new(rt, pass, slots, lanes);
     run_over(&mut ports, hub)
 }
 
-fn run_over<R: Wait, F: FnOnce(&mut NetPorts<R>) -> u8>(ports: &mut NetPorts<R>, hub: F) -> u8
+fn run_over<R, K, F: FnOnce(&mut NetPorts<R, K>) -> u8>(ports: &mut NetPorts<R, K>, hub: F) -> u8
     requires { FnOnceTakesAtMut F.FnOnce hub ports.old }
     ensures { FnOnceReturnsAtMut F.FnOnce hub ports.old result ports.new }
 {

@@ -1,6 +1,7 @@
 use super::door::Desk;
 use super::slot::Slot;
-use mj_lanes::{Clock, LanePass, TickPass, WriterPass, read_loop, tick_loop, write_loop};
+use mj_base::Event;
+use mj_lanes::{Clock, LanePass, TickPass, read_loop, tick_loop};
 use std::alloc::Global;
 use std::sync::{Arc, Wait};
 
@@ -8,9 +9,9 @@ use std::sync::{Arc, Wait};
 #[derive(Drop)]
 pub enum Work<R, D: Desk, C> {
     /// Takes in a lane's connections, one after the other, and sends what each peer sends.
-    Read(R, Global, LanePass<R>, D, Arc<Slot<D::Out>, Global>),
-    /// Writes to a lane's peers what the hub has put.
-    Write(R, WriterPass<R>, Arc<Slot<D::Out>, Global>),
+    Read(R, Global, LanePass<R>, D, Arc<Slot<R, D::Out>, Global>),
+    /// Writes to a lane's peers what the hub leaves.
+    Write(R, Arc<Slot<R, D::Out>, Global>),
     /// Sends the moments of the clock, and the end at so many milliseconds, or none at 0.
     Tick(TickPass<R>, C, u64),
 }
@@ -22,19 +23,19 @@ impl<R: Wait + Copy + Drop, D: Desk + Drop, C: Clock + Drop> Work<R, D, C> {
             Work::Read(rt, alloc, mut pass, mut desk, slot) => {
                 read_lane(&rt, alloc, &mut pass, &mut desk, &slot);
             }
-            Work::Write(rt, mut pass, slot) => write_lane(&rt, &mut pass, &slot),
+            Work::Write(rt, slot) => slot.write_on(&rt),
             Work::Tick(mut pass, mut clock, until) => tick_loop(&mut pass, &mut clock, until),
         }
     }
 }
 
 /// Reads one connection of the lane after the other. A desk that gives none closes the slot.
-fn read_lane<R: Wait + Copy, D: Desk>(
+fn read_lane<R: Wait + Copy + Drop, D: Desk>(
     rt: &R,
     alloc: Global,
     pass: &mut LanePass<R>,
     desk: &mut D,
-    slot: &Slot<D::Out>,
+    slot: &Slot<R, D::Out>,
 ) {
     for _ in rt.forever() {
         slot.wait_free(rt);
@@ -43,23 +44,7 @@ fn read_lane<R: Wait + Copy, D: Desk>(
             return;
         };
         slot.fill(rt, sink);
-        pass.send(mj_base::Event::Open(pass.lane()));
+        pass.send(Event::Open(pass.lane()));
         let _ = read_loop(alloc, pass, &mut source);
-    }
-}
-
-/// Writes to one connection of the lane after the other, until the slot is closed.
-fn write_lane<R: Wait + Copy, K: mj_base::Sink + Drop>(
-    rt: &R,
-    pass: &mut WriterPass<R>,
-    slot: &Slot<K>,
-) {
-    for _ in rt.forever() {
-        let Some(mut sink) = slot.take(rt) else {
-            return;
-        };
-        let _ = write_loop(pass, &mut sink);
-        drop(sink);
-        slot.free(rt);
     }
 }

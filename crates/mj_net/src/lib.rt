@@ -12,6 +12,7 @@ mod slot;
 mod socket;
 mod spawner;
 mod std_door;
+mod unwritten;
 
 pub use clock::StdClock;
 pub use door::{Desk, Door, DoorFailed};

@@ -7,12 +7,15 @@ ghost use Rattle.mj_net.specs.Passing.{AreNewPorts, Act, PortsState, ended, most
 ghost use Rattle.mj_net.specs.Standing.{Stands};
 ghost use Rattle.mj_serve.specs.Given.{is_stop};
 
+use super::slot::Slot;
+use super::unwritten::Unwritten;
 use mj_base::{Event, NoMemory, Note, Octets, Reason};
 use mj_disk::Disk;
-use mj_lanes::HubPass;
+use mj_lanes::{HubPass, PieceSink};
 use mj_serve::Ports;
+use std::alloc::Global;
 use std::marker::Model;
-use std::sync::Wait;
+use std::sync::{Arc, Wait};
 
 /// So many entries of the inbox are taken at most.
 const LAST_ENTRY: u64 = (1 << 60) - 1;
@@ -20,10 +23,14 @@ const LAST_ENTRY: u64 = (1 << 60) - 1;
 /// The most lanes.
 const LANES: usize = 64;
 
-/// Ports over the lanes: events come of the inbox, and pieces and end marks go into the outlets.
+/// Ports over the lanes: events come of the inbox, and pieces and end marks go into the outlets. What goes from there to the
+/// peers without waiting is written before the ports wait for the next entry, and now and then while entries come.
 #[derive(Drop)]
-pub struct NetPorts<R> {
+pub struct NetPorts<R, K> {
+    rt: R,
     hub: HubPass<R>,
+    slots: Vec<Arc<Slot<R, K>, Global>>,
+    unwritten: Unwritten,
     lanes: u32,
     /// Whether the lane has a connection that wasn't ended.
     opened: [bool; LANES],
@@ -31,7 +38,7 @@ pub struct NetPorts<R> {
     stopped: bool,
 }
 
-impl<R> Model for NetPorts<R> {
+impl<R, K> Model for NetPorts<R, K> {
     ghost use Rattle.std.specs.Prelude.{◌≡◌, ◌≤◌, length};
     ghost use Rattle.mj_net.specs.Passing.{PortsState};
 
@@ -42,9 +49,14 @@ impl<R> Model for NetPorts<R> {
     ghost invariant = { λ p. (p.lanes ≡ length p.hub.outlets) × (p.lanes ≤ 64) × (p.taken ≡ length p.hub.taken) };
 }
 
-impl<R> NetPorts<R> {
-    /// Ports over a hub that has taken and put nothing, with so many lanes.
-    pub(crate) fn new(hub: HubPass<R>, lanes: u32) -> NetPorts<R>
+impl<R, K> NetPorts<R, K> {
+    /// Ports over a hub that has taken and put nothing, with so many lanes, and the slot of each.
+    pub(crate) fn new(
+        rt: R,
+        hub: HubPass<R>,
+        slots: Vec<Arc<Slot<R, K>, Global>>,
+        lanes: u32,
+    ) -> NetPorts<R, K>
         requires lanes { (lanes ≡ length hub.outlets) × (lanes ≤ 64) }
         requires taken { hub.taken ≡ [] }
         requires put { All (λ o. o.put ≡ []) hub.outlets }
@@ -52,7 +64,10 @@ impl<R> NetPorts<R> {
         ensures stands { Stands result result [] [] }
     {
         NetPorts {
+            rt,
             hub,
+            slots,
+            unwritten: Unwritten::new(),
             lanes,
             opened: [false; LANES],
             taken: 0,
@@ -61,7 +76,7 @@ impl<R> NetPorts<R> {
     }
 }
 
-impl<R: Wait> NetPorts<R> {
+impl<R: Wait + Copy + Drop, K: PieceSink + Drop> NetPorts<R, K> {
     /// Takes an entry of the inbox, or gives the end where no more are taken.
     fn take(&mut self) -> Event
         ensures full { most_entries ≤ length self.old.taken → (result ≡ event.Stop) × (self.new ≡ record self.old { stopped = true }) }
@@ -73,9 +88,17 @@ impl<R: Wait> NetPorts<R> {
             self.stopped = true;
             return Event::Stop;
         }
-        let event = self.hub.take();
+        let event = next_entry(
+            &self.rt,
+            &mut self.hub,
+            self.slots.as_slice(),
+            &mut self.unwritten,
+        );
         self.taken += 1;
         self.follow(&event);
+        if self.stopped {
+            write_out(&self.rt, self.slots.as_slice(), &mut self.unwritten);
+        }
         event
     }
 
@@ -104,6 +127,7 @@ impl<R: Wait> NetPorts<R> {
         ensures lanes { length self.new.lanes.outlets ≡ length self.old.lanes.outlets }
     {
         mark_lane(&mut self.hub, lane);
+        self.unwritten.note(lane);
         self.opened[lane as usize] = false;
     }
 
@@ -124,8 +148,43 @@ impl<R: Wait> NetPorts<R> {
     {
         if lane < self.lanes {
             put_lane(&mut self.hub, lane, piece);
+            self.unwritten.note(lane);
         }
     }
+}
+
+/// Takes the next entry of the inbox. What goes to the peers without waiting is written first, where the inbox is empty or
+/// enough was put.
+fn next_entry<R: Wait + Copy + Drop, K: PieceSink + Drop>(
+    rt: &R,
+    hub: &mut HubPass<R>,
+    slots: &[Arc<Slot<R, K>, Global>],
+    unwritten: &mut Unwritten,
+) -> Event
+    ensures taken { hub.new ≡ record hub.old { taken = hub.old.taken ++ result ∷ [] } }
+    ensures within { IsWithin (length hub.old.outlets) result }
+{
+    if !unwritten.is_due() {
+        if let Some(event) = hub.poll() {
+            return event;
+        }
+    }
+    write_out(rt, slots, unwritten);
+    hub.take()
+}
+
+/// Writes to each lane to which something was put since the last time.
+fn write_out<R: Wait + Copy + Drop, K: PieceSink + Drop>(
+    rt: &R,
+    slots: &[Arc<Slot<R, K>, Global>],
+    unwritten: &mut Unwritten,
+) {
+    for lane in 0..slots.len() {
+        if unwritten.has(lane) {
+            slots[lane].write_out(rt);
+        }
+    }
+    unwritten.clear();
 }
 
 fn put_lane<R: Wait>(hub: &mut HubPass<R>, lane: u32, piece: Octets)
@@ -146,7 +205,7 @@ fn mark_lane<R: Wait>(hub: &mut HubPass<R>, lane: u32)
     hub.mark(lane);
 }
 
-impl<R: Wait> Ports for NetPorts<R> {
+impl<R: Wait + Copy + Drop, K: PieceSink + Drop> Ports for NetPorts<R, K> {
     ghost use Rattle.std.specs.Prelude.{◌-◌, length};
     ghost use Rattle.mj_net.specs.Passing.{most_entries};
     ghost use Rattle.mj_net.specs.Standing.{Stands};

@@ -13,9 +13,6 @@ use std::{io, thread};
 /// How long a desk waits after an accept that failed, in milliseconds.
 const PAUSE_MS: u64 = 100;
 
-/// How long a peer may take nothing of what is written to it, in seconds.
-const WRITE_SECONDS: u64 = 10;
-
 /// Listens on a TCP port of the system.
 #[derive(Drop)]
 pub struct StdDoor<R> {
@@ -69,6 +66,7 @@ impl<R: Net<Listener = TcpListener, Stream = TcpStream> + Clock + Copy + Send + 
         match another(&self.listener) {
             Some(listener) => Ok(StdDesk {
                 rt: self.rt,
+                alloc: self.alloc,
                 listener,
                 faults: 0,
             }),
@@ -110,6 +108,7 @@ fn another(listener: &Option<Arc<TcpListener, Global>>) -> Option<Arc<TcpListene
 #[derive(Drop)]
 pub struct StdDesk<R> {
     rt: R,
+    alloc: Global,
     listener: Arc<TcpListener, Global>,
     faults: u64,
 }
@@ -124,7 +123,7 @@ impl<R: Clock> Desk for StdDesk<R> {
     /// An accept that fails is made again after a pause, as at the limit of open files.
     fn accept(&mut self) -> Option<(StdSource<TcpStream>, SocketSink)> {
         for _turn in 0..u64::MAX {
-            if let Some(ends) = accept_from(&self.listener) {
+            if let Some(ends) = accept_from(self.alloc, &self.listener) {
                 return Some(ends);
             }
             self.faults = self.faults.saturating_add(1);
@@ -136,12 +135,12 @@ impl<R: Clock> Desk for StdDesk<R> {
 }
 
 /// The two ends of the next connection.
-fn accept_from(listener: &TcpListener) -> Option<(StdSource<TcpStream>, SocketSink)> {
+fn accept_from(
+    alloc: Global,
+    listener: &TcpListener,
+) -> Option<(StdSource<TcpStream>, SocketSink)> {
     let (stream, _peer) = listener.accept().ok()?;
     stream.set_nodelay(true).ok()?;
-    stream
-        .set_write_timeout(Some(Duration::from_secs(WRITE_SECONDS)))
-        .ok()?;
     let other = stream.try_clone().ok()?;
-    Some((StdSource::new(stream), SocketSink::new(other)))
+    Some((StdSource::new(stream), SocketSink::new(alloc, other)?))
 }

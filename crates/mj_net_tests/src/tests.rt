@@ -1,5 +1,6 @@
 ghost use Rattle.std.specs.Prelude.{◌≤◌};
 
+use mj_base::MemorySink;
 use mj_net::{FakeDesk, FakeDoor, FakeSpawner, HostFault, NetPorts, Spawner, StdClock, Work, host};
 use std::alloc::{AllocError, Global};
 use std::sync::Wait;
@@ -36,7 +37,7 @@ fn host_of<R: Wait + Clock + Copy + Drop>(
         &mut door,
         &mut spawner,
         StdClock::new(rt),
-        |_ports: &mut NetPorts<R>| 3,
+        |_ports: &mut NetPorts<R, MemorySink>| 3,
     );
     let started = Spawner::<FakeWork<R>>::started(&spawner);
     Ok((answer, started))
