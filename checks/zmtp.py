@@ -7,7 +7,14 @@ import subprocess
 import sys
 import time
 
-signal.signal(signal.SIGTERM, lambda *_: sys.exit(143))  # so that what was started is ended too
+
+def ended(*_):
+    """Ends the script, and with it what it started; a second signal changes nothing."""
+    signal.signal(signal.SIGTERM, signal.SIG_IGN)
+    sys.exit(143)
+
+
+signal.signal(signal.SIGTERM, ended)
 
 GREETING = bytes.fromhex("ff00000000000000007f03004e554c4c") + bytes(48)
 
