@@ -13,11 +13,15 @@ use mj_host::broker_words;
 use mj_prog::tool;
 use peering::{is_peer, run_peer};
 use serving::serve_words;
+use std::fs::OpenOptions;
 use std::io::ErrorKind;
 use std::process::ExitCode;
+use std::rt::Files;
 use std::{env, io};
 
 fn main(rt: HostRuntime) -> ExitCode {
+    // What is opened first takes the place of a standard stream that is closed, which no file of a store may take.
+    let _places = (held_place(&rt), held_place(&rt), held_place(&rt));
     let alloc = rt.alloc();
     let Ok(words) = program_words(&rt) else {
         return ExitCode::from(4);
@@ -37,6 +41,11 @@ fn main(rt: HostRuntime) -> ExitCode {
         return ExitCode::from(run_compact(&rt, alloc, &words, &mut sink));
     }
     ExitCode::from(run_over_disk(&rt, &words))
+}
+
+/// Holds the lowest place of an open file that is free. What is written there fails.
+fn held_place<R: Files>(rt: &R) -> Option<R::File> {
+    OpenOptions::new().read(true).open(rt, "/dev/null").ok()
 }
 
 /// The words behind the program's name. Words that aren't UTF-8 are no words of the program, as an empty list is.
