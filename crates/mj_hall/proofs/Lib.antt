@@ -12,3 +12,6 @@ pub mod HallLemmas
 pub mod TakenLemmas
 pub mod HasLemmas
 pub mod AskLemmas
+pub mod CrewLemmas
+pub mod LeavingLemmas
+pub mod StandLemmas

@@ -5,5 +5,7 @@ pub mod Desks
 pub mod Ready
 pub mod Floor
 pub mod Walk
+pub mod Crew
+pub mod Whose
 pub mod HallValue
 pub mod Stands
