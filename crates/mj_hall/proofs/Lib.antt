@@ -15,3 +15,4 @@ pub mod AskLemmas
 pub mod CrewLemmas
 pub mod LeavingLemmas
 pub mod StandLemmas
+pub mod LabelLemmas

@@ -7,5 +7,6 @@ pub mod Floor
 pub mod Walk
 pub mod Crew
 pub mod Whose
+pub mod Labels
 pub mod HallValue
 pub mod Stands

@@ -1,8 +1,9 @@
-ghost use Rattle.std.specs.Prelude.{◌≡◌, ◌+◌, ◌-◌, ◌*◌, ◌≤◌, ◌^◌, ◌++◌, ◌∷◌, [], is_some, option_map, filter, length, IfErr, OnOk, OnErr, true, false, if◌then◌else◌};
+ghost use Rattle.std.specs.Prelude.{◌≡◌, ◌+◌, ◌-◌, ◌*◌, ◌≤◌, ◌<◌, ◌^◌, ◌++◌, ◌∷◌, [], is_some, option_map, filter, length, IfErr, OnOk, OnErr, true, false, if◌then◌else◌};
 ghost use Rattle.mj_queue.specs.HallSteps.{Asked, Takes, waits};
 ghost use Rattle.mj_queue.specs.Offers.{offer_of};
 ghost use Rattle.mj_queue.specs.Settling;
 ghost use Rattle.mj_queue.specs.Settling.{is_served, pair, queued, without_client, without_ticket, without_worker};
+ghost use Rattle.mj_hall.specs.HallValue.{labels_to_give};
 ghost use Rattle.mj_hall.specs.Whose.{stays};
 
 use crate::counts::{busied, count_in, count_out, is_past};
@@ -10,6 +11,7 @@ use crate::crew::{shut_after, waiting_worker, worker_goes, worker_waits};
 use crate::desks::is_staffed;
 use crate::floor::{request_comes, request_leaves};
 use crate::kept::{Queued, Worker};
+use crate::labels::number_all;
 use crate::leaving::{Whose, last_whose, request_goes};
 use crate::offered::{origin_of, waiter_of};
 use crate::ready::{firsts_of, mark, unmark};
@@ -66,6 +68,14 @@ impl Hall {
     pub fn new(alloc: Global, limits: &Limits) -> Hall
         ensures { result ≡ record { state = record { limits = limits.now; waiting = []; busy = []; requests = [] }; labels = 2 ^ 64 - 1 } }
     {
+        Hall::labelled_from(alloc, limits, 0)
+    }
+
+    /// A hall with nobody in it, whose first request has this label. Where labels end the requests are numbered
+    /// anew; from here a test gets there.
+    pub fn labelled_from(alloc: Global, limits: &Limits, label: u64) -> Hall
+        ensures { result ≡ record { state = record { limits = limits.now; waiting = []; busy = []; requests = [] }; labels = 2 ^ 64 - 1 - label } }
+    {
         Hall {
             limits: *limits,
             requests: Rows::new(alloc),
@@ -85,7 +95,7 @@ impl Hall {
             busy_first: 0,
             busy_last: 0,
             busy_count: 0,
-            next: 0,
+            next: label,
             queued: 0,
             weight: 0,
         }
@@ -169,8 +179,11 @@ impl Hall {
     /// Puts the request last, or gives it back with what stands against it.
     pub fn ask<L: Ledger>(&mut self, request: Request, steps: &mut Steps<L>) -> Result<(), AskFault>
         ensures asked { Asked self.old.state self.new.state request result }
-        ensures labels { self.old.labels ≤ self.new.labels + 1 }
-        ensures cost { steps.new ≤ steps.old + 40 }
+        ensures labels { OnOk result (labels_to_give self.old ≤ self.new.labels + 1) }
+        ensures labels_stay { OnErr result (self.old.labels ≤ self.new.labels) }
+
+        // Where labels have ended, all requests are numbered anew, which takes a step for each and more.
+        ensures cost { 0 < self.old.labels → steps.new ≤ steps.old + 40 }
     {
         if self.is_too_much(&request, steps) {
             return Err(AskFault::QueueFull(request));
@@ -189,8 +202,9 @@ impl Hall {
     ) -> Result<(), NoMemory>
         ensures ok { OnOk result (self.new.state ≡ record self.old.state { requests = self.old.state.requests ++ request ∷ [] }) }
         ensures err { OnErr result (self.new.state ≡ self.old.state) }
-        ensures labels { self.old.labels ≤ self.new.labels + 1 }
-        ensures cost { steps.new ≤ steps.old + 40 }
+        ensures labels { OnOk result (labels_to_give self.old ≤ self.new.labels + 1) }
+        ensures labels_stay { OnErr result (self.old.labels ≤ self.new.labels) }
+        ensures cost { 0 < self.old.labels → steps.new ≤ steps.old + 40 }
     {
         match self.put(request, steps) {
             Ok(()) => Ok(()),
@@ -202,7 +216,49 @@ impl Hall {
     fn put<L: Ledger>(&mut self, request: Request, steps: &mut Steps<L>) -> Result<(), Request>
         ensures ok { OnOk result (self.new.state ≡ record self.old.state { requests = self.old.state.requests ++ request ∷ [] }) }
         ensures err { IfErr result (λ back. (back ≡ request) × (self.new.state ≡ self.old.state)) }
-        ensures labels { self.old.labels ≤ self.new.labels + 1 }
+        ensures labels { OnOk result (labels_to_give self.old ≤ self.new.labels + 1) }
+        ensures labels_stay { OnErr result (self.old.labels ≤ self.new.labels) }
+        ensures cost { 0 < self.old.labels → steps.new ≤ steps.old + 20 }
+    {
+        self.make_label(steps);
+        self.put_last(request, steps)
+    }
+
+    /// Sees to it that a label is left, unless there are as many requests as labels.
+    fn make_label<L: Ledger>(&mut self, steps: &mut Steps<L>)
+        ensures state { self.new.state ≡ self.old.state }
+        ensures labels { self.new.labels ≡ labels_to_give self.old }
+        ensures cost { 0 < self.old.labels → steps.new ≡ steps.old }
+    {
+        if self.next < u64::MAX {
+            return;
+        }
+        self.number_anew(steps);
+    }
+
+    /// Numbers all requests anew from 0.
+    fn number_anew<L: Ledger>(&mut self, steps: &mut Steps<L>)
+        ensures state { self.new.state ≡ self.old.state }
+        ensures labels { self.new.labels ≡ 2 ^ 64 - 1 - length self.old.state.requests }
+    {
+        number_all(
+            &mut self.requests,
+            &mut self.pairs,
+            &self.desks,
+            self.request_first,
+            self.request_last,
+            self.request_count,
+            steps,
+        );
+        self.next = self.request_count as u64;
+    }
+
+    /// Puts the request last, with the next label. Without memory, or a label, it is given back.
+    fn put_last<L: Ledger>(&mut self, request: Request, steps: &mut Steps<L>) -> Result<(), Request>
+        ensures ok { OnOk result (self.new.state ≡ record self.old.state { requests = self.old.state.requests ++ request ∷ [] }) }
+        ensures err { IfErr result (λ back. (back ≡ request) × (self.new.state ≡ self.old.state)) }
+        ensures labels { OnOk result (self.old.labels ≤ self.new.labels + 1) }
+        ensures labels_stay { OnErr result (self.new.labels ≡ self.old.labels) }
         ensures cost { steps.new ≤ steps.old + 20 }
     {
         if !can_count(

@@ -14,7 +14,7 @@ use Rattle.mj_hall.proofs.DeskLemmas.{part-same}
 use Rattle.mj_hall.proofs.HallLemmas.{value_is}
 use Rattle.mj_hall.proofs.ReadyLemmas.{hidden_stays}
 use Rattle.mj_hall.proofs.WalkLemmas.{flat, seen_is}
-use Rattle.mj_hall.proofs.hall.Hall.put.Goals as goal
+use Rattle.mj_hall.proofs.hall.Hall.put_last.Goals as goal
 
 pub returns-in-Err-clause-err : goal.returns-in-Err-clause-err
 returns-in-Err-clause-err g c =

@@ -1,5 +1,5 @@
 use Rattle.std.proofs.Common.{[], refl, arith}
-use Rattle.mj_hall.proofs.hall.Hall.new.Goals as goal
+use Rattle.mj_hall.proofs.hall.Hall.labelled_from.Goals as goal
 
 pub invariant_of-result : goal.invariant_of-result
 invariant_of-result c = (
