@@ -47,6 +47,17 @@ impl Leases {
         }
     }
 
+    /// Takes the table apart. Each field is named here and put where its type is, so that no further one goes unseen.
+    pub fn take_apart(self) {
+        let Leases {
+            by_conn,
+            by_deadline,
+            room,
+        } = self;
+        let _orders: (Order, Order) = (by_conn, by_deadline);
+        let _room: usize = room;
+    }
+
     /// Makes spare room for at least `n` leases of further connections.
     pub fn reserve(&mut self, n: usize) -> Result<(), NoMemory>
         ensures leases { OnOk result (self.new.leases ≡ self.old.leases) }

@@ -101,6 +101,42 @@ impl Hall {
         }
     }
 
+    /// Takes the hall apart. Each field is named here and put where its type is, so that no further one goes unseen.
+    pub fn take_apart(self) {
+        let Hall {
+            limits,
+            requests,
+            workers,
+            desks,
+            names,
+            clients,
+            tickets,
+            conns,
+            pairs,
+            request_first,
+            request_last,
+            request_count,
+            waiting_first,
+            waiting_last,
+            waiting_count,
+            busy_first,
+            busy_last,
+            busy_count,
+            next,
+            queued,
+            weight,
+        } = self;
+        let _limits: Limits = limits;
+        let _rows: (Rows<Node<Queued>>, Rows<Node<Worker>>, Rows<Desk>) = (
+            requests, workers, desks,
+        );
+        let _orders: (Index, Order, Order, Order, Order) = (names, clients, tickets, conns, pairs);
+        let _requests: [usize; 3] = [request_first, request_last, request_count];
+        let _waiting: [usize; 3] = [waiting_first, waiting_last, waiting_count];
+        let _busy: [usize; 3] = [busy_first, busy_last, busy_count];
+        let _numbers: [u64; 3] = [next, queued, weight];
+    }
+
     /// Whether some request's service has a waiting worker.
     pub fn has_pair<L: Ledger>(&self, steps: &mut Steps<L>) -> bool
         ensures value { result ≡ is_some (pair self.now.state.waiting self.now.state.requests) }
