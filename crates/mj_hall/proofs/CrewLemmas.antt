@@ -94,7 +94,7 @@ conn_found n k ws e = of (found k ws) refl e
     of None f g = cc
     of (Some v) f g = (v, f, number_is v.waiter.worker n g)
 
-out_is_without : (rows : Rows (Node Worker)) (conns : List (ℕ × ℕ)) (ws : List (Seat Worker)) (n k : ℕ) (w : Worker) → Serving rows conns ws → found k ws ≡ Some w → w.waiter.worker ≡ n → take_out seat_key k ws ≡ without_conn n ws
+pub out_is_without : (rows : Rows (Node Worker)) (conns : List (ℕ × ℕ)) (ws : List (Seat Worker)) (n k : ℕ) (w : Worker) → Serving rows conns ws → found k ws ≡ Some w → w.waiter.worker ≡ n → take_out seat_key k ws ≡ without_conn n ws
 out_is_without rows conns ws n k w a at conn =
     filter_same (λ (s : Seat Worker). not (s.key == k)) (λ s. not (s.value.waiter.worker == n)) ws a.distinct (λ j v e. ap not (of j v e (j == k) refl (v.waiter.worker == n) refl))
   where

@@ -25,7 +25,7 @@ use Rattle.mj_hall.specs.Desks.{Desks, desk_of}
 use Rattle.mj_hall.specs.Ends.{EndsAre, ends_from}
 use Rattle.mj_hall.specs.Floor.{labels_below, labels_rise, requests_of}
 use Rattle.mj_hall.specs.Labels.{Marked, node_with, numbered, relabelled, seat_with, with_label}
-use Rattle.mj_hall.specs.Ready.{ReadyBut, first_pair, pair_in}
+use Rattle.mj_hall.specs.Ready.{ReadyBut, first_pair}
 use Rattle.mj_hall.specs.Serving.{workers_at}
 use Rattle.mj_hall.proofs.ReadyLemmas.{hidden_stays}
 use Rattle.mj_hall.proofs.WalkLemmas.{before_differs, found_mid, next_mid}
@@ -196,9 +196,12 @@ rows_relabelled old new k l es are changed j =
     of None = none (j == k)
     of (Some v) = some v (j == k)
 
+pub desk_bare : (xs ys : List (Seat Queued)) (ws : List (Seat Worker)) (d : ℕ) → bare xs ≡ bare ys → desk_of d xs ws ≡ desk_of d ys ws
+desk_bare xs ys ws d same = ap (λ (ends : Ends). record { requests = ends; waiting = ends_of seat_key (workers_at false d ws); busy = ends_of seat_key (workers_at true d ws) }) (same-ends (of_desk d xs) (of_desk d ys) (same-filter xs ys same (λ q. q.desk == d) (λ l q. refl)))
+
 pub desks_bare : (places : Rows Desk) (names : Index) (xs ys : List (Seat Queued)) (ws : List (Seat Worker)) → bare xs ≡ bare ys → Desks places names xs ws → Desks places names ys ws
 desks_bare places names xs ys ws same are = record {
-  each = λ q d e. are.each q d e ∙ ap (λ (ends : Ends). Some (record { requests = ends; waiting = ends_of seat_key (workers_at false d ws); busy = ends_of seat_key (workers_at true d ws) })) (same-ends (of_desk d xs) (of_desk d ys) (same-filter xs ys same (λ q. q.desk == d) (λ l q. refl)));
+  each = λ q d e. are.each q d e ∙ ap (λ (desk : Desk). Some desk) (desk_bare xs ys ws d same);
   one = are.one;
   asked = λ k e f. asked k e (found k xs) refl (same-found xs ys same k ∙ ap (option_map (with_label 0)) f);
   served = are.served;

@@ -16,3 +16,4 @@ pub mod CrewLemmas
 pub mod LeavingLemmas
 pub mod StandLemmas
 pub mod LabelLemmas
+pub mod PeopleLemmas

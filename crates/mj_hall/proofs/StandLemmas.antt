@@ -4,6 +4,7 @@ use Rattle.std.specs.List.{filter}
 use Rattle.mj_base.specs.declared.limits.Limits.{Limits}
 use Rattle.mj_counted.specs.declared.index.Index.{Index}
 use Rattle.mj_counted.specs.declared.rows.Rows.{Rows}
+use Rattle.mj_counted.specs.Names.{key_of}
 use Rattle.mj_counted.specs.Pairs.{Pairs}
 use Rattle.mj_counted.specs.Rows.{entries, entry}
 use Rattle.mj_chain.specs.declared.desk.Desk.{Desk}
@@ -56,29 +57,45 @@ module _ (h : Inside) (es : List (Seat Queued)) (ws : List (Seat Worker)) (stand
     weighs = stands.weight;
   }
 
-  -- with room for a worker, and a desk that is opened
-  pub roomy : (workers : Rows (Node Worker)) (conns pairs : Pairs) (desks : Rows Desk) (names : Index) → ((k : ℕ) → entry workers k ≡ entry h.workers k) → entries workers ≡ entries h.workers → conns.pairs ≡ h.conns.pairs → pairs.pairs ≡ h.pairs.pairs → Desks desks names es ws
-      → Stands (record h { workers = workers; conns = conns; pairs = pairs; desks = desks; names = names }) es ws
-  roomy workers conns pairs desks names same count same_conns same_pairs are = record {
-    asking = stands.asking;
-    serving = subst (λ (ps : List (ℕ × ℕ)). Serving workers ps ws) (sym same_conns) (record {
-      distinct = stands.serving.distinct;
-      rows = λ k. same k ∙ stands.serving.rows k;
-      count = count ∙ stands.serving.count;
-      by_conn = stands.serving.by_conn;
-      single = stands.serving.single;
-    });
-    desks = are;
-    ready = subst (λ (ps : List (ℕ × ℕ)). ReadyBut None ps es ws) (sym same_pairs) stands.ready;
-    asked = stands.asked;
-    waiting = stands.waiting;
-    busy = stands.busy;
-    rise = stands.rise;
-    below = stands.below;
-    number = stands.number;
-    weight = stands.weight;
-    fits = stands.fits;
-  }
+  -- with room for a worker
+  module _ (workers : Rows (Node Worker)) (conns pairs : Pairs) (desks : Rows Desk) (names : Index) (same : (k : ℕ) → entry workers k ≡ entry h.workers k) (count : entries workers ≡ entries h.workers) (same_conns : conns.pairs ≡ h.conns.pairs) (same_pairs : pairs.pairs ≡ h.pairs.pairs)
+      (are : Desks desks names es ws) where
+    serving : Serving workers conns.pairs ws
+    serving =
+        subst (λ (ps : List (ℕ × ℕ)). Serving workers ps ws) (sym same_conns)
+        (record { distinct = stands.serving.distinct; rows = λ k. same k ∙ stands.serving.rows k; count = count ∙ stands.serving.count; by_conn = stands.serving.by_conn; single = stands.serving.single })
+
+    ready : ReadyBut None pairs.pairs es ws
+    ready = subst (λ (ps : List (ℕ × ℕ)). ReadyBut None ps es ws) (sym same_pairs) stands.ready
+
+    pub roomy_crew : Crew h.requests workers conns.pairs desks names pairs.pairs h.waiting_first h.waiting_last h.waiting_count h.busy_first h.busy_last h.busy_count es ws
+    roomy_crew = record {
+      distinct = stands.asking.distinct;
+      rows = stands.asking.rows;
+      serving = serving;
+      desks = are;
+      ready = ready;
+      waiting = stands.waiting;
+      busy = stands.busy;
+    }
+
+    -- and no desk opened
+    pub roomy : ((q : List ℕ) → key_of names q ≡ key_of h.names q) → Stands (record h { workers = workers; conns = conns; pairs = pairs; desks = desks; names = names }) es ws
+    roomy unopened = record {
+      asking = stands.asking;
+      serving = serving;
+      desks = are;
+      peopled = λ q d e hidden. stands.peopled q d (sym (unopened q) ∙ e) hidden;
+      ready = ready;
+      asked = stands.asked;
+      waiting = stands.waiting;
+      busy = stands.busy;
+      rise = stands.rise;
+      below = stands.below;
+      number = stands.number;
+      weight = stands.weight;
+      fits = stands.fits;
+    }
 
 pub if_some : {A : Type 0} (o : Option A) (P Q : A → Type 0) → ((x : A) → P x → Q x) → IfSome o P → IfSome o Q
 if_some None P Q f h = tt

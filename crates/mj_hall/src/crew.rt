@@ -1,9 +1,9 @@
-ghost use Rattle.std.specs.Prelude.{◌≡◌, ◌+◌, ◌^◌, ◌≤◌, ◌<◌, ◌++◌, ◌∷◌, [], ℕ, List, None, Some, IfSome, OnSome, not, true, false};
+ghost use Rattle.std.specs.Prelude.{◌≡◌, ◌+◌, ◌^◌, ◌≤◌, ◌<◌, ◌++◌, ◌∷◌, [], ℕ, List, None, Some, option_map, IfSome, OnSome, not, true, false};
 ghost use Rattle.mj_counted.specs.Names.{key_of};
 ghost use Rattle.mj_counted.specs.Rows.{entry, spare};
-ghost use Rattle.mj_chain.specs.Seats.{Seat, are_distinct, found, seat_key, take_out};
+ghost use Rattle.mj_chain.specs.Seats.{Seat, are_distinct, found, is_key, seat_key, take_out};
 ghost use Rattle.mj_hall.specs.Crew.{Crew, without_conn};
-ghost use Rattle.mj_hall.specs.Desks.{Desks};
+ghost use Rattle.mj_hall.specs.Desks.{Desks, PeopledBut, desk_of};
 ghost use Rattle.mj_hall.specs.Ends.{EndsAre};
 ghost use Rattle.mj_hall.specs.Serving.{NoneOf, Serving, workers_of};
 
@@ -109,6 +109,7 @@ pub fn worker_goes<L: Ledger>(
     requires stands { (names : Index) × (es : List (Seat Queued)) × (ws : List (Seat Worker)) × Crew requests.now workers.old conns.old.pairs desks.old names pairs.old.pairs waiting_first.old waiting_last.old waiting_count.old busy_first.old busy_last.old busy_count.old es ws }
     ensures crew { (names : Index) (es : List (Seat Queued)) (ws : List (Seat Worker)) → Crew requests.now workers.old conns.old.pairs desks.old names pairs.old.pairs waiting_first.old waiting_last.old waiting_count.old busy_first.old busy_last.old busy_count.old es ws → Crew requests.now workers.new conns.new.pairs desks.new names pairs.new.pairs waiting_first.new waiting_last.new waiting_count.new busy_first.new busy_last.new busy_count.new es (without_conn number ws) }
     ensures named { IfSome result (λ worker. (names : Index) (es : List (Seat Queued)) (ws : List (Seat Worker)) → Serving workers.old conns.old.pairs ws → Desks desks.old names es ws → key_of names worker.waiter.service ≡ Some worker.desk) }
+    ensures others { (es : List (Seat Queued)) (ws : List (Seat Worker)) (d : ℕ) → Serving workers.old conns.old.pairs ws → is_key d (option_map (λ worker. worker.desk) result) ≡ false → desk_of d es (without_conn number ws) ≡ desk_of d es ws }
     ensures fewer { (waiting_count.new ≤ waiting_count.old) × (busy_count.new ≤ busy_count.old) }
     ensures room { spare workers.old ≤ spare workers.new }
     ensures conns_room { conns.old.spare ≤ conns.new.spare }
@@ -175,6 +176,7 @@ pub fn shut_after<L: Ledger>(
 )
     requires named { IfSome gone (λ worker. key_of names.old worker.waiter.service ≡ Some worker.desk) }
     ensures desks { (es : List (Seat Queued)) (ws : List (Seat Worker)) → are_distinct seat_key es ≡ true → are_distinct seat_key ws ≡ true → Desks desks.old names.old es ws → Desks desks.new names.new es ws }
+    ensures peopled { (es : List (Seat Queued)) (ws : List (Seat Worker)) → Desks desks.old names.old es ws → PeopledBut (option_map (λ worker. worker.desk) gone) names.old es ws → PeopledBut None names.new es ws }
     ensures cost { steps.new ≤ steps.old + 3 }
 {
     if let Some(worker) = gone {

@@ -1,9 +1,10 @@
-ghost use Rattle.std.specs.Prelude.{◌≡◌, ◌+◌, ◌-◌, ◌*◌, ◌≤◌, ◌<◌, ◌^◌, ◌++◌, ◌∷◌, [], is_some, option_map, filter, length, IfErr, OnOk, OnErr, true, false, if◌then◌else◌};
+ghost use Rattle.std.specs.Prelude.{◌≡◌, ◌+◌, ◌-◌, ◌*◌, ◌≤◌, ◌<◌, ◌^◌, ◌++◌, ◌∷◌, ◌||◌, [], is_some, option_map, filter, length, IfErr, OnOk, OnErr, true, false, if◌then◌else◌};
 ghost use Rattle.mj_queue.specs.HallSteps.{Asked, Takes, waits};
 ghost use Rattle.mj_queue.specs.Offers.{offer_of};
 ghost use Rattle.mj_queue.specs.Settling;
 ghost use Rattle.mj_queue.specs.Settling.{is_served, pair, queued, without_client, without_ticket, without_worker};
-ghost use Rattle.mj_hall.specs.HallValue.{labels_to_give};
+ghost use Rattle.std.specs.List.{list_any};
+ghost use Rattle.mj_hall.specs.HallValue.{asks_for, labels_to_give};
 ghost use Rattle.mj_hall.specs.Whose.{stays};
 
 use crate::counts::{busied, count_in, count_out, is_past};
@@ -203,6 +204,14 @@ impl Hall {
             Some(desk) => is_staffed(&self.desks, desk, steps),
             None => false,
         }
+    }
+
+    /// Whether anybody asks for this service, waits for it or is busy with it: no other service is kept.
+    pub fn is_known<L: Ledger>(&self, name: &Name, steps: &mut Steps<L>) -> bool
+        ensures value { result ≡ (list_any (asks_for name.now) self.now.state.requests || is_served name.now self.now.state.waiting self.now.state.busy) }
+        ensures cost { steps.new ≡ steps.old + 1 }
+    {
+        self.names.get(name, steps).is_some()
     }
 
     /// The number of queued client requests.

@@ -1,8 +1,9 @@
-ghost use Rattle.std.specs.Prelude.{◌≡◌, ◌+◌, ◌≤◌, ℕ, List, IfSome, IfNone, Some, filter, true, false};
+ghost use Rattle.std.specs.Prelude.{◌≡◌, ◌+◌, ◌≤◌, ℕ, List, IfSome, IfNone, None, Some, filter, true, false};
 ghost use Rattle.mj_counted.specs.Pairs.{has_pair};
 ghost use Rattle.mj_chain.specs.Seats.{Seat, found, seat_key, take_out};
 ghost use Rattle.mj_hall.specs.Asking.{Asking};
 ghost use Rattle.mj_hall.specs.Crew.{Queue};
+ghost use Rattle.mj_hall.specs.Desks.{PeopledBut};
 ghost use Rattle.mj_hall.specs.Floor.{requests_of};
 ghost use Rattle.mj_hall.specs.Whose.{stays};
 
@@ -88,6 +89,7 @@ pub fn request_goes<L: Ledger>(
 )
     requires stands { (es : List (Seat Queued)) × (ws : List (Seat Worker)) × (x : Queued) × Queue requests.old clients.old.pairs tickets.old.pairs desks.old names.old pairs.old.pairs first.old last.old count.old queued.old weight.old es ws × (found key es ≡ Some x) }
     ensures queue { (es : List (Seat Queued)) (ws : List (Seat Worker)) (x : Queued) → Queue requests.old clients.old.pairs tickets.old.pairs desks.old names.old pairs.old.pairs first.old last.old count.old queued.old weight.old es ws → found key es ≡ Some x → Queue requests.new clients.new.pairs tickets.new.pairs desks.new names.new pairs.new.pairs first.new last.new count.new queued.new weight.new (take_out seat_key key es) ws }
+    ensures peopled { (es : List (Seat Queued)) (ws : List (Seat Worker)) (x : Queued) → Queue requests.old clients.old.pairs tickets.old.pairs desks.old names.old pairs.old.pairs first.old last.old count.old queued.old weight.old es ws → found key es ≡ Some x → PeopledBut None names.old es ws → PeopledBut None names.new (take_out seat_key key es) ws }
     ensures cost { steps.new ≤ steps.old + 20 }
 {
     let desk = desk_of_request(requests, key, steps).unwrap();

@@ -1,4 +1,4 @@
-ghost use Rattle.std.specs.Prelude.{◌≡◌, ◌+◌, ◌^◌, ◌≤◌, ◌<◌, ℕ, List, None, Some, IfOk, OnOk, is_some, true, false};
+ghost use Rattle.std.specs.Prelude.{◌≡◌, ◌+◌, ◌^◌, ◌≤◌, ◌<◌, ◌==◌, ℕ, List, None, Some, IfOk, OnOk, OnErr, is_some, true, false};
 ghost use Rattle.mj_base.specs.KeptWeight.{weight_of};
 ghost use Rattle.mj_counted.specs.Names.{key_of};
 ghost use Rattle.mj_counted.specs.Rows.{entries, entry, spare};
@@ -33,6 +33,8 @@ pub fn room_for_request<L: Ledger>(
     ensures pairs { pairs.new.pairs ≡ pairs.old.pairs }
     ensures desks { (es : List (Seat Queued)) (ws : List (Seat Worker)) → are_distinct seat_key es ≡ true → are_distinct seat_key ws ≡ true → Desks desks.old names.old es ws → Desks desks.new names.new es ws }
     ensures named { IfOk result (λ desk. key_of names.new name.now ≡ Some desk) }
+    ensures opened { IfOk result (λ desk. (q : List ℕ) (d : ℕ) → key_of names.new q ≡ Some d → (d == desk) ≡ false → key_of names.old q ≡ Some d) }
+    ensures unopened { OnErr result ((q : List ℕ) → key_of names.new q ≡ key_of names.old q) }
     ensures rows_room { OnOk result (0 < spare requests.new) }
     ensures clients_room { OnOk result (0 < clients.new.spare) }
     ensures tickets_room { OnOk result (0 < tickets.new.spare) }
@@ -62,6 +64,8 @@ pub fn room_for_worker<L: Ledger>(
     ensures pairs { pairs.new.pairs ≡ pairs.old.pairs }
     ensures desks { (es : List (Seat Queued)) (ws : List (Seat Worker)) → are_distinct seat_key es ≡ true → are_distinct seat_key ws ≡ true → Desks desks.old names.old es ws → Desks desks.new names.new es ws }
     ensures named { IfOk result (λ desk. key_of names.new name.now ≡ Some desk) }
+    ensures opened { IfOk result (λ desk. (q : List ℕ) (d : ℕ) → key_of names.new q ≡ Some d → (d == desk) ≡ false → key_of names.old q ≡ Some d) }
+    ensures unopened { OnErr result ((q : List ℕ) → key_of names.new q ≡ key_of names.old q) }
     ensures rows_room { OnOk result (0 < spare workers.new) }
     ensures conns_room { OnOk result (0 < conns.new.spare) }
     ensures pairs_room { OnOk result (2 ≤ pairs.new.spare) }

@@ -1,9 +1,11 @@
-use Rattle.std.proofs.Common.{◌≡◌, ℕ, Bool, Option, Some, sym, subst, arith, rules}
+use Rattle.std.proofs.Common.{◌≡◌, ℕ, Bool, Option, Some, sym, subst, arith, rules, ap, ◌==◌, false, ◌∙◌}
 use Rattle.std.specs.Option.{IsSome}
 use Rattle.mj_counted.specs.Names.{key_of}
 use Rattle.mj_chain.specs.Seats.{seat_key, take_out}
 use Rattle.mj_hall.specs.declared.kept.Worker.{Worker}
-use Rattle.mj_hall.proofs.CrewLemmas.{conn_found, crew_same, going_at, hidden_goes, same_some, was_pair_worker, without_none}
+use Rattle.mj_hall.specs.Desks.{desk_of}
+use Rattle.mj_hall.proofs.PeopleLemmas.{desk_worker_out}
+use Rattle.mj_hall.proofs.CrewLemmas.{out_is_without, conn_found, crew_same, going_at, hidden_goes, same_some, was_pair_worker, without_none}
 use Rattle.mj_hall.proofs.crew.worker_goes.Goals as goal
 
 pub returns-in_err-key-clause-crew : goal.returns-in_err-key-clause-crew
@@ -82,3 +84,14 @@ returns-clause-conns_room g c =
     let one = conn_found c.args.number c.in_ok-key.key c.requires.stands.2 (c.in_ok-key.ensures.some c.args.workers.now c.requires.stands.2 crew.serving) in
     let room = c.kind_leaves.ensures.conns_room c.requires.stands.2 one.0 crew.serving one.1 in
     omega arith
+
+pub returns-in_err-key-clause-others : goal.returns-in_err-key-clause-others
+returns-in_err-key-clause-others g c = λ es ws d serving hidden. ap (desk_of d es) (without_none c.args.number ws serving.distinct (c.in_err-key.ensures.none c.args.workers.now ws serving))
+
+pub returns-clause-others : goal.returns-clause-others
+returns-clause-others g c =
+    λ es ws d serving hidden.
+    let one = conn_found c.args.number c.in_ok-key.key ws (c.in_ok-key.ensures.some c.args.workers.now ws serving) in
+    let same : c.unwrap-worker.result ≡ one.0 = same_some c.kind_leaves.result c.unwrap-worker.result one.0 c.unwrap-worker.ensures (c.kind_leaves.ensures.value ws one.0 serving one.1) in
+    ap (desk_of d es) (sym (out_is_without c.args.workers.now c.args.conns.now.pairs ws c.args.number c.in_ok-key.key one.0 serving one.1 one.2))
+    ∙ desk_worker_out c.in_ok-key.key d one.0 es ws serving.distinct one.1 (subst (λ (w : Worker). (w.desk == d) ≡ false) same hidden)

@@ -1,6 +1,6 @@
-use Rattle.std.proofs.Common.{◌≡◌, ◌+◌, ◌<◌, ◌≤◌, ◌++◌, ◌∷◌, ◌∙◌, ℕ, length, subst, sym, arith}
+use Rattle.std.proofs.Common.{◌≡◌, ◌+◌, ◌<◌, ◌++◌, ◌∷◌, ◌∙◌, ℕ, length, subst, sym, arith}
 use Rattle.mj_hall.specs.Labels.{numbered}
-use Rattle.mj_hall.proofs.LabelLemmas.{Counted, counted_end, counted_start, counted_step, next_of}
+use Rattle.mj_hall.proofs.LabelLemmas.{Counted, counted_step, next_of}
 use Rattle.mj_hall.proofs.labels.number_all.Goals as goal
 
 less : (label count n : ℕ) → label < count → count ≡ n → label < n

@@ -3,7 +3,6 @@ use Rattle.std.specs.Option.{IsSome}
 use Rattle.mj_chain.specs.Seats.{next_in, seat_key}
 use Rattle.mj_hall.specs.Asking.{of_desk}
 use Rattle.mj_hall.specs.Labels.{relabelled}
-use Rattle.mj_hall.specs.Ready.{first_pair}
 use Rattle.mj_hall.specs.Serving.{workers_at}
 use Rattle.mj_hall.proofs.LabelLemmas.{bare-relabelled, desks_bare, hidden_labels, rows_relabelled, same-distinct, same-filter, same-none}
 use Rattle.mj_hall.proofs.TakenLemmas.{same_some}

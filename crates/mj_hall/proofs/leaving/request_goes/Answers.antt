@@ -1,13 +1,15 @@
-use Rattle.std.proofs.Common.{◌≡◌, ◌+◌, ◌≤◌, ◌∙◌, ℕ, Option, Some, true, cond, sym, subst, rules}
+use Rattle.std.proofs.Common.{◌≡◌, ◌+◌, ◌≤◌, ◌∙◌, ℕ, Option, Some, true, cond, sym, subst, rules, ◌==◌, false, refl, ap}
 use Rattle.std.specs.Option.{IsSome}
 use Rattle.mj_base.specs.KeptWeight.{weight_of}
 use Rattle.mj_counted.specs.Names.{key_of}
 use Rattle.mj_chain.specs.Seats.{seat_key, take_out}
 use Rattle.mj_queue.specs.Settling.{is_of_client, queued, queued_weight}
 use Rattle.mj_hall.specs.declared.kept.Queued.{Queued}
+use Rattle.mj_hall.specs.Desks.{is_peopled}
 use Rattle.mj_hall.specs.Floor.{requests_of}
 use Rattle.mj_hall.proofs.CrewLemmas.{same_some, was_pair_request}
 use Rattle.mj_hall.proofs.LeavingLemmas.{hidden_parts, parting_at}
+use Rattle.mj_hall.proofs.PeopleLemmas.{desk_request_out}
 use Rattle.mj_hall.proofs.TakenLemmas.{cancelled, counted, number-out, weight-out}
 use Rattle.mj_hall.proofs.leaving.request_goes.Goals as goal
 
@@ -101,3 +103,13 @@ returns-clause-queue g c =
           (subst (λ (q : Queued). c.count_out.new.weight + cond (is_of_client q.request.origin) (weight_of q.request.body) 0 ≡ c.args.weight.now) same c.count_out.ensures.weight)
           (weight-out key x es queue.asking.distinct at ∙ sym queue.weighs);
     }
+
+pub returns-clause-peopled : goal.returns-clause-peopled
+returns-clause-peopled g c =
+    λ es ws x queue at people.
+    let key = c.args.key in
+    let desk = c.unwrap-desk.result in
+    let parting = parting_at c.args.desks.now c.args.names.now es ws c.args.key desk x c.desk_of_request.result queue.desks at (c.desk_of_request.ensures.value c.args.clients.now.pairs c.args.tickets.now.pairs es x queue.asking at) c.unwrap-desk.ensures in
+    let desks = c.request_leaves.ensures.desks c.args.names.now es ws x queue.asking at queue.desks in
+    c.shut.ensures.peopled (take_out seat_key key es) ws desks
+    (λ q d e hidden. ap is_peopled (desk_request_out key d x es ws queue.asking.distinct at (subst (λ (m : ℕ). (m == d) ≡ false) (sym parting.place) hidden)) ∙ people q d e refl)

@@ -24,6 +24,7 @@ invariant_of-self g c =
         asking = queue.asking;
         serving = c.self.invariant.2.serving;
         desks = queue.desks;
+        peopled = c.request_goes.ensures.peopled c.self.invariant.0 c.self.invariant.1 one.0 (queue_of c.self.inside c.self.invariant.0 c.self.invariant.1 c.self.invariant.2) one.1 c.self.invariant.2.peopled;
         ready = queue.ready;
         asked = queue.ends;
         waiting = c.self.invariant.2.waiting;

@@ -1,11 +1,11 @@
-use Rattle.std.proofs.Common.{◌≡◌, ◌∙◌, List, Some, ap, arith}
+use Rattle.std.proofs.Common.{◌≡◌, ◌∙◌, List, Some, ap, arith, refl}
 use Rattle.mj_chain.specs.Seats.{Seat}
 use Rattle.mj_counted.specs.declared.index.Index.{Index}
 use Rattle.mj_counted.specs.Names.{key_of}
 use Rattle.mj_hall.specs.declared.kept.Queued.{Queued}
 use Rattle.mj_hall.specs.declared.kept.Worker.{Worker}
 use Rattle.mj_hall.specs.Crew.{without_conn}
-use Rattle.mj_hall.specs.Desks.{Desks}
+use Rattle.mj_hall.specs.Desks.{Desks, is_peopled}
 use Rattle.mj_hall.specs.HallValue.{HallValue}
 use Rattle.mj_hall.specs.Serving.{Serving}
 use Rattle.mj_hall.proofs.HallLemmas.{value_is}
@@ -41,6 +41,9 @@ invariant_of-self g c =
         asking = stands.asking;
         serving = crew.serving;
         desks = c.shut_after.ensures.desks c.self.invariant.0 (without_conn c.args.conn c.self.invariant.1) crew.distinct crew.serving.distinct crew.desks;
+        peopled =
+            c.shut_after.ensures.peopled c.self.invariant.0 (without_conn c.args.conn c.self.invariant.1) crew.desks
+            (λ q d e hidden. ap is_peopled (c.worker_goes-gone.ensures.others c.self.invariant.0 c.self.invariant.1 d stands.serving hidden) ∙ stands.peopled q d e refl);
         ready = crew.ready;
         asked = stands.asked;
         waiting = crew.waiting;

@@ -1,6 +1,6 @@
 use Rattle.std.proofs.Common.{◌≡◌, ◌-◌, ◌^◌, ◌∙◌, ℕ, List, length, refl, sym, ap, arith}
 use Rattle.std.proofs.lemmas.List.{length-map}
-use Rattle.mj_chain.specs.Seats.{Seat, is_key, last_from, seat_key}
+use Rattle.mj_chain.specs.Seats.{Seat, is_key}
 use Rattle.mj_queue.specs.HallState.{HallState}
 use Rattle.mj_queue.specs.declared.request.Origin.TheVariants.{Client, Ticket}
 use Rattle.mj_queue.specs.declared.request.Request.{Request}
@@ -11,8 +11,9 @@ use Rattle.mj_hall.specs.Floor.{requests_of}
 use Rattle.mj_hall.specs.HallValue.{HallValue}
 use Rattle.mj_hall.specs.Labels.{numbered}
 use Rattle.mj_hall.proofs.HallLemmas.{value_is}
-use Rattle.mj_hall.proofs.LabelLemmas.{bare-numbered, numbered_below, numbered_rise, same-ends, same-filter, same-last, same-length, same-requests}
+use Rattle.mj_hall.proofs.LabelLemmas.{bare-numbered, numbered_below, numbered_rise, same-ends, same-filter, same-last, same-length, same-requests, desk_bare}
 use Rattle.mj_hall.proofs.WalkLemmas.{flat, seen_is}
+use Rattle.mj_hall.specs.Desks.{is_peopled}
 use Rattle.mj_hall.proofs.hall.Hall.number_anew.Goals as goal
 
 pub number_all-requires : goal.number_all-requires
@@ -43,6 +44,7 @@ invariant_of-self g c =
         };
         serving = stands.serving;
         desks = marked.desks;
+        peopled = λ q d e h. ap is_peopled (sym (desk_bare es later ws d bare)) ∙ stands.peopled q d e h;
         ready = marked.ready;
         asked = record { ends = stands.asked.ends ∙ same-ends es later bare; len = stands.asked.len ∙ same-length es later bare };
         waiting = stands.waiting;

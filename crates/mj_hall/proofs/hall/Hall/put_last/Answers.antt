@@ -14,7 +14,32 @@ use Rattle.mj_hall.proofs.DeskLemmas.{part-same}
 use Rattle.mj_hall.proofs.HallLemmas.{value_is}
 use Rattle.mj_hall.proofs.ReadyLemmas.{hidden_stays}
 use Rattle.mj_hall.proofs.WalkLemmas.{flat, seen_is}
+use Rattle.mj_hall.proofs.PeopleLemmas.{request_people}
 use Rattle.mj_hall.proofs.hall.Hall.put_last.Goals as goal
+
+pub invariant_of-self : goal.invariant_of-self
+invariant_of-self g c =
+    let asking1 = asking_same c.self.inside.requests c.room_for_request.new.requests c.self.inside.clients.pairs c.room_for_request.new.clients.pairs c.self.inside.tickets.pairs c.room_for_request.new.tickets.pairs c.self.invariant.0 c.self.invariant.2.asking c.room_for_request.ensures.same c.room_for_request.ensures.count c.room_for_request.ensures.clients c.room_for_request.ensures.tickets in
+    let desks1 = c.room_for_request.ensures.desks c.self.invariant.0 c.self.invariant.1 c.self.invariant.2.asking.distinct c.self.invariant.2.serving.distinct c.self.invariant.2.desks in
+    let ready1 : ReadyBut None c.room_for_request.new.pairs.pairs c.self.invariant.0 c.self.invariant.1 = subst (λ (ps : List (ℕ × ℕ)). ReadyBut None ps c.self.invariant.0 c.self.invariant.1) (sym c.room_for_request.ensures.pairs) c.self.invariant.2.ready in (
+      c.self.invariant.0,
+      c.self.invariant.1,
+      record {
+        asking = asking1;
+        serving = c.self.invariant.2.serving;
+        desks = desks1;
+        peopled = λ q d e h. c.self.invariant.2.peopled q d (sym (c.in-Err.ensures.unopened q) ∙ e) h;
+        ready = ready1;
+        asked = c.self.invariant.2.asked;
+        waiting = c.self.invariant.2.waiting;
+        busy = c.self.invariant.2.busy;
+        rise = c.self.invariant.2.rise;
+        below = c.self.invariant.2.below;
+        number = c.self.invariant.2.number;
+        weight = c.self.invariant.2.weight;
+        fits = c.self.invariant.2.fits;
+      },
+    )
 
 pub returns-in-Err-clause-err : goal.returns-in-Err-clause-err
 returns-in-Err-clause-err g c =
@@ -25,6 +50,7 @@ returns-in-Err-clause-err g c =
       asking = asking1;
       serving = c.self.invariant.2.serving;
       desks = desks1;
+      peopled = λ q d e h. c.self.invariant.2.peopled q d (sym (c.in-Err.ensures.unopened q) ∙ e) h;
       ready = ready1;
       asked = c.self.invariant.2.asked;
       waiting = c.self.invariant.2.waiting;
@@ -57,6 +83,7 @@ invariant_of-self-2 g c =
         asking = asking2;
         serving = c.self.invariant.2.serving;
         desks = desks2;
+        peopled = request_people c.request_comes.result c.in-Ok.desk x c.self.inside.names c.room_for_request.new.names c.self.invariant.0 c.self.invariant.1 refl c.in-Ok.ensures.opened c.self.invariant.2.peopled;
         ready = c.mark.ensures.ready es c.self.invariant.1 asking2.distinct asking2.rows (desks2.each c.args.request.service c.in-Ok.desk named) apart;
         asked = c.request_comes.ensures.ends c.self.invariant.0 c.self.invariant.2.asked;
         waiting = c.self.invariant.2.waiting;
