@@ -1,4 +1,4 @@
-ghost use Rattle.std.specs.Prelude.{◌≡◌, ◌+◌, ◌<◌, ◌≤◌, ◌==◌, ℕ, true, false, Bool, None, Some, not, ◌&&◌, ◌||◌, length, slice_get, IsOk, IfOk, OnOk, OnErr, IfSome, IfNone, if◌then◌else◌, vec_capacity, vec_len};
+ghost use Rattle.std.specs.Prelude.{◌≡◌, ◌+◌, ◌^◌, ◌<◌, ◌≤◌, ◌==◌, ℕ, true, false, Bool, None, Some, not, ◌&&◌, ◌||◌, length, slice_get, IsOk, IfOk, OnOk, OnErr, IfSome, IfNone, if◌then◌else◌, vec_capacity, vec_len};
 ghost use Rattle.mj_counted.specs.Pairs.{StandsAt, below, has_pair, is_of, is_pair, is_rising, same_pair};
 ghost use Rattle.mj_counted.specs.Pairs;
 
@@ -50,6 +50,8 @@ impl Order {
         ensures value { result ≡ slice_get self.now.pairs at }
         ensures stands { IfSome result (StandsAt self.now.pairs at) }
         ensures empty { IfNone result (at ≡ 0 → (pair : ℕ × ℕ) → has_pair pair self.now.pairs ≡ false) }
+        ensures rising { is_rising self.now.pairs ≡ true }
+        ensures within { IfSome result (λ pair. at + 1 < 2 ^ 64) }
         ensures cost { steps.new ≡ steps.old + 1 }
     {
         steps.tick();
@@ -91,6 +93,7 @@ impl Order {
         ensures value { result ≡ has_pair pair self.old.pairs }
         ensures changed { (p : ℕ × ℕ) → has_pair p self.new.pairs ≡ (not (same_pair p pair) && has_pair p self.old.pairs) }
         ensures room { self.old.spare + (if has_pair pair self.old.pairs then 1 else 0) ≤ self.new.spare }
+        ensures bound { self.new.spare < 2 ^ 64 }
         ensures cost { steps.new ≡ steps.old + 1 }
     {
         steps.tick();

@@ -10,7 +10,9 @@ use Rattle.mj_queue.specs.Settling.{is_served, serves}
 use Rattle.mj_hall.specs.declared.hall.Hall.TheInside.{Inside}
 use Rattle.mj_hall.specs.declared.kept.Queued.{Queued}
 use Rattle.mj_hall.specs.declared.kept.Worker.{Worker}
-use Rattle.mj_hall.specs.Floor.{waiters_of}
+use Rattle.mj_hall.specs.Asking.{of_desk}
+use Rattle.mj_hall.specs.Floor.{requests_of, waiters_of}
+use Rattle.mj_hall.specs.HallValue.{asks_for}
 use Rattle.mj_hall.specs.Serving.{same_bool, workers_at, workers_of}
 use Rattle.mj_hall.specs.Stands.{Stands}
 use Rattle.mj_hall.proofs.TakeLemmas.{filter-filter, filter-found, later_found, names_decide, own_found}
@@ -67,3 +69,29 @@ module _ (h : Inside) (es : List (Seat Queued)) (ws : List (Seat Worker)) (stand
       of : (o : Option ℕ) → key_of h.names name ≡ o → awaited ≡ list_any (serves name) (waiters_of (workers_of false ws))
       of None e = none e ∙ sym (unserved e false)
       of (Some d) e = some d e ∙ sym (served_at d e false)
+
+  -- somebody asks for a service or serves it where it has a desk, and only there
+  pub known_is : is_some (key_of h.names name) ≡ (list_any (asks_for name) (requests_of es) || is_served name (waiters_of (workers_of false ws)) (waiters_of (workers_of true ws)))
+  known_is = of (key_of h.names name) refl
+    where
+      others : (v : Queued) → key_of h.names v.request.service ≡ Some v.desk → key_of h.names name ≡ None → (b : Bool) → bytes_eq v.request.service name ≡ b → bytes_eq v.request.service name ≡ false
+      others v named none true e =
+          let there : key_of h.names name ≡ Some v.desk = subst (λ (q : List ℕ). key_of h.names q ≡ Some v.desk) ((bytes_decides v.request.service name).0 e) named in
+          cc
+      others v named none false e = e
+
+      asked : (d : ℕ) → key_of h.names name ≡ Some d → list_any (asks_for name) (requests_of es) ≡ is_some (head_of seat_key (of_desk d es))
+      asked d named =
+          any_is (λ (q : Queued). q.request) (asks_for name) (λ (q : Queued). q.desk == d) es stands.asking.distinct
+          (λ k v e. names_decide h.desks h.names es ws stands.desks stands.asking.distinct stands.serving.distinct stands.rise v.request.service name v.desk d (stands.desks.asked k v e) named)
+
+      of : (o : Option ℕ) → key_of h.names name ≡ o → is_some (key_of h.names name) ≡ (list_any (asks_for name) (requests_of es) || is_served name (waiters_of (workers_of false ws)) (waiters_of (workers_of true ws)))
+      of None e =
+          ap is_some e
+          ∙ sym (ap (λ (b : Bool). b || is_served name (waiters_of (workers_of false ws)) (waiters_of (workers_of true ws))) (none_any (λ (q : Queued). q.request) (asks_for name) es stands.asking.distinct (λ k v f. others v (stands.desks.asked k v f) e (bytes_eq v.request.service name) refl))
+          ∙ is_unserved e)
+      of (Some d) e =
+          ap is_some e
+          ∙ sym (ap (λ (b : Bool). b || is_served name (waiters_of (workers_of false ws)) (waiters_of (workers_of true ws))) (asked d e)
+          ∙ ap (λ (b : Bool). is_some (head_of seat_key (of_desk d es)) || b) (is_served_at d e)
+          ∙ stands.peopled name d e refl)

@@ -12,3 +12,8 @@ pub mod HallLemmas
 pub mod TakenLemmas
 pub mod HasLemmas
 pub mod AskLemmas
+pub mod CrewLemmas
+pub mod LeavingLemmas
+pub mod StandLemmas
+pub mod LabelLemmas
+pub mod PeopleLemmas

@@ -64,7 +64,7 @@ module _ {T : Type 0} where
           ap q (sym same) ∙ (and_parts (q s.value) (list_all (λ s. q s.value) ss) all).0
       of false h later = later h
 
-  found-filter : (q : T → Bool) (k : ℕ) (v : T) (xs : List (Seat T)) → found k xs ≡ Some v → q v ≡ true → found k (filter (λ s. q s.value) xs) ≡ Some v
+  pub found-filter : (q : T → Bool) (k : ℕ) (v : T) (xs : List (Seat T)) → found k xs ≡ Some v → q v ≡ true → found k (filter (λ s. q s.value) xs) ≡ Some v
   found-filter q k v [] e f = cc
   found-filter q k v (s ∷ ss) e f = of (s.key == k) refl e (q s.value) refl (λ h. found-filter q k v ss h f)
     where

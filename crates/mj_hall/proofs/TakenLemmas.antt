@@ -197,7 +197,7 @@ module _ (ws : List (Seat Worker)) (k n : ℕ) (w v : Worker) (distinct : are_di
       let serves : length (workers_of true (take_out seat_key k ws ++ record { key = n; value = v } ∷ [])) ≡ length (workers_of true ws) + 1 = ap length busy_now ∙ length-append (workers_of true ws) (record { key = n; value = v } ∷ []) in
       omega arith
 
-waiters-append : (xs : List (Seat Worker)) (n : ℕ) (v : Worker) → waiters_of (xs ++ record { key = n; value = v } ∷ []) ≡ waiters_of xs ++ v.waiter ∷ []
+pub waiters-append : (xs : List (Seat Worker)) (n : ℕ) (v : Worker) → waiters_of (xs ++ record { key = n; value = v } ∷ []) ≡ waiters_of xs ++ v.waiter ∷ []
 waiters-append [] n v = refl
 waiters-append (x ∷ xs) n v = ap (λ (ys : List Waiter). x.value.waiter ∷ ys) (waiters-append xs n v)
 

@@ -40,7 +40,7 @@ module _ {T : Type 0} where
       or_true true = refl
       or_true false = refl
 
-  before_differs : (x : Seat T) (before : List (Seat T)) (s : Seat T) (rest : List (Seat T)) → are_distinct seat_key (x ∷ (before ++ s ∷ rest)) ≡ true → (x.key == s.key) ≡ false
+  pub before_differs : (x : Seat T) (before : List (Seat T)) (s : Seat T) (rest : List (Seat T)) → are_distinct seat_key (x ∷ (before ++ s ∷ rest)) ≡ true → (x.key == s.key) ≡ false
   before_differs x before s rest d = of (x.key == s.key) refl
     where
       of : (b : Bool) → (x.key == s.key) ≡ b → (x.key == s.key) ≡ false
@@ -49,11 +49,11 @@ module _ {T : Type 0} where
           wrong _ (sym (has_mid before s rest) ∙ missing)
       of false e = e
 
-  next_mid : (before : List (Seat T)) (s : Seat T) (rest : List (Seat T)) → are_distinct seat_key (before ++ s ∷ rest) ≡ true → next_in seat_key s.key (before ++ s ∷ rest) ≡ head_of seat_key rest
+  pub next_mid : (before : List (Seat T)) (s : Seat T) (rest : List (Seat T)) → are_distinct seat_key (before ++ s ∷ rest) ≡ true → next_in seat_key s.key (before ++ s ∷ rest) ≡ head_of seat_key rest
   next_mid [] s rest d = rw (own_number s.key) refl
   next_mid (x ∷ xs) s rest d = rw (before_differs x xs s rest d) (next_mid xs s rest (distinct_parts seat_key x (xs ++ s ∷ rest) d).1)
 
-  found_mid : (before : List (Seat T)) (s : Seat T) (rest : List (Seat T)) → are_distinct seat_key (before ++ s ∷ rest) ≡ true → found s.key (before ++ s ∷ rest) ≡ Some s.value
+  pub found_mid : (before : List (Seat T)) (s : Seat T) (rest : List (Seat T)) → are_distinct seat_key (before ++ s ∷ rest) ≡ true → found s.key (before ++ s ∷ rest) ≡ Some s.value
   found_mid [] s rest d = rw (own_number s.key) refl
   found_mid (x ∷ xs) s rest d = rw (before_differs x xs s rest d) (found_mid xs s rest (distinct_parts seat_key x (xs ++ s ∷ rest) d).1)
 

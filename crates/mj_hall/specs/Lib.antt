@@ -5,5 +5,8 @@ pub mod Desks
 pub mod Ready
 pub mod Floor
 pub mod Walk
+pub mod Crew
+pub mod Whose
+pub mod Labels
 pub mod HallValue
 pub mod Stands

@@ -6,7 +6,7 @@ use Rattle.mj_hall.specs.declared.hall.Hall.TheInside.{Inside}
 use Rattle.mj_hall.specs.declared.kept.Queued.{Queued}
 use Rattle.mj_hall.specs.declared.kept.Worker.{Worker}
 use Rattle.mj_hall.specs.Asking.{Asking}
-use Rattle.mj_hall.specs.Desks.{Desks}
+use Rattle.mj_hall.specs.Desks.{Desks, PeopledBut}
 use Rattle.mj_hall.specs.Ends.{EndsAre, ends_from}
 use Rattle.mj_hall.specs.Floor.{labels_below, labels_rise, requests_of}
 use Rattle.mj_hall.specs.HallValue.{HallValue}
@@ -18,6 +18,7 @@ pub record Stands (h : Inside) (es : List (Seat Queued)) (ws : List (Seat Worker
   pub asking : Asking h.requests h.clients.pairs h.tickets.pairs es
   pub serving : Serving h.workers h.conns.pairs ws
   pub desks : Desks h.desks h.names es ws
+  pub peopled : PeopledBut None h.names es ws
   pub ready : ReadyBut None h.pairs.pairs es ws
   pub asked : EndsAre h.request_first h.request_last h.request_count es
   pub waiting : EndsAre h.waiting_first h.waiting_last h.waiting_count (workers_of false ws)

@@ -1,4 +1,4 @@
-ghost use Rattle.std.specs.Prelude.{◌≡◌, ◌+◌, ◌≤◌, ◌<◌, ◌∷◌, ℕ, List, None, Some, true, false};
+ghost use Rattle.std.specs.Prelude.{◌≡◌, ◌+◌, ◌≤◌, ◌<◌, ◌∷◌, ℕ, List, None, Some, is_some, true, false};
 ghost use Rattle.std.specs.Option.{option_map};
 ghost use Rattle.mj_counted.specs.Rows.{entry};
 ghost use Rattle.mj_chain.specs.Nodes.{RowsAre};
@@ -60,6 +60,7 @@ pub fn unmark<L: Ledger>(
 )
     ensures ready { (es : List (Seat Queued)) (ws : List (Seat Worker)) → are_distinct seat_key es ≡ true → RowsAre queued_classes requests.now es → entry desks.now key ≡ Some (desk_of key es ws) → ReadyBut None pairs.old.pairs es ws → ReadyBut (Some key) pairs.new.pairs es ws }
     ensures room { pairs.old.spare ≤ pairs.new.spare }
+    ensures back { (es : List (Seat Queued)) (ws : List (Seat Worker)) → are_distinct seat_key es ≡ true → RowsAre queued_classes requests.now es → entry desks.now key ≡ Some (desk_of key es ws) → ReadyBut None pairs.old.pairs es ws → is_some (pair_in es ws key) ≡ true → 0 < pairs.new.spare }
     ensures cost { steps.new ≤ steps.old + 3 }
 {
     if let Some(label) = label_of(desks, requests, key, steps) {
@@ -77,6 +78,24 @@ pub fn mark<L: Ledger>(
 )
     requires ready { (es : List (Seat Queued)) × (ws : List (Seat Worker)) × ReadyBut (Some key) pairs.old.pairs es ws }
     requires room { 0 < pairs.old.spare }
+    ensures ready { (es : List (Seat Queued)) (ws : List (Seat Worker)) → are_distinct seat_key es ≡ true → RowsAre queued_classes requests.now es → entry desks.now key ≡ Some (desk_of key es ws) → ReadyBut (Some key) pairs.old.pairs es ws → ReadyBut None pairs.new.pairs es ws }
+    ensures room { pairs.old.spare ≤ pairs.new.spare + 1 }
+    ensures cost { steps.new ≤ steps.old + 3 }
+{
+    if let Some(label) = label_of(desks, requests, key, steps) {
+        pairs.insert((label, key), steps).unwrap();
+    }
+}
+
+/// Shows this desk again, whose pair was there before if it has one.
+pub fn mark_again<L: Ledger>(
+    pairs: &mut Order,
+    desks: &Rows<Desk>,
+    requests: &Rows<Node<Queued>>,
+    key: usize,
+    steps: &mut Steps<L>,
+)
+    requires stands { (es : List (Seat Queued)) × (ws : List (Seat Worker)) × (are_distinct seat_key es ≡ true) × RowsAre queued_classes requests.now es × (entry desks.now key ≡ Some (desk_of key es ws)) × ReadyBut (Some key) pairs.old.pairs es ws × (is_some (pair_in es ws key) ≡ true → 0 < pairs.old.spare) }
     ensures ready { (es : List (Seat Queued)) (ws : List (Seat Worker)) → are_distinct seat_key es ≡ true → RowsAre queued_classes requests.now es → entry desks.now key ≡ Some (desk_of key es ws) → ReadyBut (Some key) pairs.old.pairs es ws → ReadyBut None pairs.new.pairs es ws }
     ensures room { pairs.old.spare ≤ pairs.new.spare + 1 }
     ensures cost { steps.new ≤ steps.old + 3 }

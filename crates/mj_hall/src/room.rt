@@ -1,4 +1,4 @@
-ghost use Rattle.std.specs.Prelude.{◌≡◌, ◌+◌, ◌^◌, ◌≤◌, ◌<◌, ℕ, List, None, Some, IfOk, OnOk, is_some, true, false};
+ghost use Rattle.std.specs.Prelude.{◌≡◌, ◌+◌, ◌^◌, ◌≤◌, ◌<◌, ◌==◌, ℕ, List, None, Some, IfOk, OnOk, OnErr, is_some, true, false};
 ghost use Rattle.mj_base.specs.KeptWeight.{weight_of};
 ghost use Rattle.mj_counted.specs.Names.{key_of};
 ghost use Rattle.mj_counted.specs.Rows.{entries, entry, spare};
@@ -33,6 +33,8 @@ pub fn room_for_request<L: Ledger>(
     ensures pairs { pairs.new.pairs ≡ pairs.old.pairs }
     ensures desks { (es : List (Seat Queued)) (ws : List (Seat Worker)) → are_distinct seat_key es ≡ true → are_distinct seat_key ws ≡ true → Desks desks.old names.old es ws → Desks desks.new names.new es ws }
     ensures named { IfOk result (λ desk. key_of names.new name.now ≡ Some desk) }
+    ensures opened { IfOk result (λ desk. (q : List ℕ) (d : ℕ) → key_of names.new q ≡ Some d → (d == desk) ≡ false → key_of names.old q ≡ Some d) }
+    ensures unopened { OnErr result ((q : List ℕ) → key_of names.new q ≡ key_of names.old q) }
     ensures rows_room { OnOk result (0 < spare requests.new) }
     ensures clients_room { OnOk result (0 < clients.new.spare) }
     ensures tickets_room { OnOk result (0 < tickets.new.spare) }
@@ -44,6 +46,42 @@ pub fn room_for_request<L: Ledger>(
     tickets.reserve(1)?;
     pairs.reserve(1)?;
     open(desks, names, name, steps)
+}
+
+/// Makes room for one worker more of this service, and opens its desk. Without memory all stays as it is.
+pub fn room_for_worker<L: Ledger>(
+    workers: &mut Rows<Node<Worker>>,
+    conns: &mut Order,
+    pairs: &mut Order,
+    desks: &mut Rows<Desk>,
+    names: &mut Index,
+    name: &Name,
+    steps: &mut Steps<L>,
+) -> Result<usize, NoMemory>
+    ensures same { (k : ℕ) → entry workers.new k ≡ entry workers.old k }
+    ensures count { entries workers.new ≡ entries workers.old }
+    ensures conns { conns.new.pairs ≡ conns.old.pairs }
+    ensures pairs { pairs.new.pairs ≡ pairs.old.pairs }
+    ensures desks { (es : List (Seat Queued)) (ws : List (Seat Worker)) → are_distinct seat_key es ≡ true → are_distinct seat_key ws ≡ true → Desks desks.old names.old es ws → Desks desks.new names.new es ws }
+    ensures named { IfOk result (λ desk. key_of names.new name.now ≡ Some desk) }
+    ensures opened { IfOk result (λ desk. (q : List ℕ) (d : ℕ) → key_of names.new q ≡ Some d → (d == desk) ≡ false → key_of names.old q ≡ Some d) }
+    ensures unopened { OnErr result ((q : List ℕ) → key_of names.new q ≡ key_of names.old q) }
+    ensures rows_room { OnOk result (0 < spare workers.new) }
+    ensures conns_room { OnOk result (0 < conns.new.spare) }
+    ensures pairs_room { OnOk result (2 ≤ pairs.new.spare) }
+    ensures cost { steps.new ≤ steps.old + 4 }
+{
+    workers.reserve(1)?;
+    conns.reserve(1)?;
+    pairs.reserve(2)?;
+    open(desks, names, name, steps)
+}
+
+/// Whether one worker more can be counted.
+pub fn has_place(waiting: usize, busy: usize) -> bool
+    ensures { result ≡ true → waiting + busy + 1 < 2 ^ 64 }
+{
+    waiting < usize::MAX && busy < usize::MAX - waiting
 }
 
 /// Whether one request more can be counted, and a label is left for it.

@@ -56,6 +56,7 @@ pub fn worker_leaves<L: Ledger>(
     ensures desks { (names : Index) (es : List (Seat Queued)) (ws : List (Seat Worker)) (w : Worker) → Serving workers.old conns.old.pairs ws → found key ws ≡ Some w → Desks desks.old names es ws → Desks desks.new names es (take_out seat_key key ws) }
     ensures ends { (ws : List (Seat Worker)) (w : Worker) → Serving workers.old conns.old.pairs ws → found key ws ≡ Some w → EndsAre first.old last.old count.old (workers_of w.busy ws) → EndsAre first.new last.new count.new (workers_of w.busy (take_out seat_key key ws)) }
     ensures others { (ws : List (Seat Worker)) (w : Worker) → Serving workers.old conns.old.pairs ws → found key ws ≡ Some w → workers_of (not w.busy) (take_out seat_key key ws) ≡ workers_of (not w.busy) ws }
+    ensures fewer { count.new ≤ count.old }
     ensures room { OnSome result (spare workers.new ≡ spare workers.old + 1) }
     ensures conns_room { (ws : List (Seat Worker)) (w : Worker) → Serving workers.old conns.old.pairs ws → found key ws ≡ Some w → conns.old.spare + 1 ≤ conns.new.spare }
     ensures cost { steps.new ≤ steps.old + 9 }
@@ -92,6 +93,7 @@ pub fn worker_comes<L: Ledger>(
     ensures desks { (names : Index) (es : List (Seat Queued)) (ws : List (Seat Worker)) → Serving workers.old conns.old.pairs ws → Desks desks.old names es ws → key_of names value.waiter.service ≡ Some value.desk → Desks desks.new names es (ws ++ record { key = result; value = value } ∷ []) }
     ensures ends { (ws : List (Seat Worker)) → EndsAre first.old last.old count.old (workers_of value.busy ws) → EndsAre first.new last.new count.new (workers_of value.busy (ws ++ record { key = result; value = value } ∷ [])) }
     ensures others { (ws : List (Seat Worker)) → workers_of (not value.busy) (ws ++ record { key = result; value = value } ∷ []) ≡ workers_of (not value.busy) ws }
+    ensures more { count.new ≡ count.old + 1 }
     ensures room { spare workers.old ≤ spare workers.new + 1 }
     ensures conns_spare { conns.old.spare ≤ conns.new.spare + 1 }
     ensures cost { steps.new ≤ steps.old + 7 }

@@ -17,6 +17,7 @@ use Rattle.mj_hall.proofs.HallLemmas.{first_is_pair, no_pair_is, pair_of, value_
 use Rattle.mj_hall.proofs.ReadyLemmas.{hidden_some}
 use Rattle.mj_hall.proofs.WalkLemmas.{seen_is}
 use Rattle.mj_hall.proofs.TakenLemmas.{at_pair, below-out, cancelled, counted, leaving, number-out, others_stay, rise-out, same_many, same_some, state_is, weight-out}
+use Rattle.mj_hall.proofs.PeopleLemmas.{pair_people}
 use Rattle.mj_hall.proofs.hall.Hall.take_pair.Goals as goal
 
 pub returns-in_err-label-clause-takes : goal.returns-in_err-label-clause-takes
@@ -171,6 +172,7 @@ invariant_of-self g c =
         asking = asking;
         serving = serving_now;
         desks = desks_now;
+        peopled = pair_people c.in_ok-label.desk c.unwrap-row.result.0 c.unwrap-row.result.1 c.worker_comes.result t.at.request.value t.at.worker.value c.busied.result c.self.inside.names c.self.invariant.0 c.self.invariant.1 c.self.invariant.2.asking.distinct c.self.invariant.2.serving.distinct asked served t.request_desk t.worker_desk v_desk c.self.invariant.2.peopled;
         ready = c.mark.ensures.ready es later asking.distinct asking.rows (desks_now.each t.at.request.value.request.service c.in_ok-label.desk t.request_named) apart;
         asked = c.request_leaves.ensures.ends c.self.invariant.0 t.at.request.value c.self.invariant.2.asking asked c.self.invariant.2.asked;
         waiting = waiting_now;
