@@ -1,30 +1,9 @@
-ghost use Rattle.std.specs.Prelude.{◌≡◌, ℕ, List, None};
-ghost use Rattle.mj_base.specs.Linking.{LinkReads};
-ghost use Rattle.mj_link.specs.Failing;
+ghost use Rattle.std.specs.Prelude.{None};
 
+use super::place::{Place, is_failed_read, is_failed_write, read_at, set_up, write_at};
 use mj_base::{Link, LinkAnswer, LinkWrite, NoMemory};
-use std::io::{ErrorKind, Read, Write};
 use std::net::{Net, TcpListener, TcpStream};
-use std::time::{Clock, Duration};
-use std::{io, thread};
-
-/// How long a read waits, and how long it is from a refused connection to its end, in milliseconds.
-const WAIT_MS: u64 = 100;
-
-/// How long a peer may take nothing of what is written to it, in seconds.
-const WRITE_SECONDS: u64 = 10;
-
-/// Where a link stands.
-#[derive(Drop)]
-enum Place {
-    /// It isn't connected yet; the next read or write does that.
-    Fresh,
-    Open(TcpStream),
-    /// There was nobody to connect to.
-    Refused,
-    /// The peer ended it.
-    Over,
-}
+use std::time::Clock;
 
 /// A link to a TCP port. It tells nothing of what passed.
 #[derive(Drop)]
@@ -99,84 +78,5 @@ fn open<R: Net<Listener = TcpListener, Stream = TcpStream>>(
     address: &str,
 ) -> Option<TcpStream> {
     let address = address.strip_prefix("tcp://").unwrap_or(address);
-    let stream = TcpStream::connect(rt, address).ok()?;
-    stream.set_nodelay(true).ok()?;
-    stream
-        .set_read_timeout(Some(Duration::from_millis(WAIT_MS)))
-        .ok()?;
-    stream
-        .set_write_timeout(Some(Duration::from_secs(WRITE_SECONDS)))
-        .ok()?;
-    Some(stream)
-}
-
-fn read_at<R: Clock>(rt: &R, place: &mut Place, into: &mut [u8]) -> LinkAnswer
-    ensures { LinkReads None None result into.new }
-{
-    match place {
-        Place::Open(stream) => read_from(stream, into),
-        Place::Refused => {
-            thread::sleep(rt, Duration::from_millis(WAIT_MS));
-            LinkAnswer::End
-        }
-        Place::Fresh | Place::Over => LinkAnswer::End,
-    }
-}
-
-fn read_from(stream: &mut TcpStream, into: &mut [u8]) -> LinkAnswer
-    ensures { LinkReads None None result into.new }
-{
-    match stream.read(into) {
-        Ok(0) => LinkAnswer::End,
-        Ok(count) => LinkAnswer::Got(count),
-        Err(error) => unread(&error),
-    }
-}
-
-/// What a read comes to that gave an error.
-fn unread(error: &io::Error) -> LinkAnswer
-    ensures { (into : List ℕ) → LinkReads None None result into }
-{
-    match error.kind() {
-        ErrorKind::WouldBlock | ErrorKind::TimedOut | ErrorKind::Interrupted => LinkAnswer::Idle,
-        ErrorKind::ConnectionReset | ErrorKind::ConnectionAborted | ErrorKind::BrokenPipe => {
-            LinkAnswer::End
-        }
-        _ => LinkAnswer::Failed,
-    }
-}
-
-/// Writes to an open link. A link that has ended, or ends by it, loses the bytes.
-fn write_at(place: &mut Place, octets: &[u8]) -> LinkWrite {
-    let Place::Open(stream) = place else {
-        return LinkWrite::Done;
-    };
-    let Err(error) = stream.write_all(octets) else {
-        return LinkWrite::Done;
-    };
-    match error.kind() {
-        ErrorKind::ConnectionReset | ErrorKind::ConnectionAborted | ErrorKind::BrokenPipe => {
-            *place = Place::Over;
-            LinkWrite::Done
-        }
-        _ => LinkWrite::Failed,
-    }
-}
-
-fn is_failed_read(answer: LinkAnswer) -> bool
-    ensures { result ≡ Failing.is_failed_read answer }
-{
-    match answer {
-        LinkAnswer::Failed => true,
-        LinkAnswer::Got(_) | LinkAnswer::Idle | LinkAnswer::End | LinkAnswer::NoMemory => false,
-    }
-}
-
-fn is_failed_write(answer: LinkWrite) -> bool
-    ensures { result ≡ Failing.is_failed_write answer }
-{
-    match answer {
-        LinkWrite::Failed => true,
-        LinkWrite::Done | LinkWrite::NoMemory => false,
-    }
+    set_up(TcpStream::connect(rt, address).ok()?)
 }

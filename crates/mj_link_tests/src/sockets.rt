@@ -1,7 +1,7 @@
 use mj_base::{Link, LinkAnswer, LinkWrite};
-use mj_link::SocketLink;
+use mj_link::{ListenLink, SocketLink};
 use std::io::{Read, Write};
-use std::net::TcpListener;
+use std::net::{TcpListener, TcpStream};
 use std::test::Fail;
 
 /// Bytes both ways over a port of this machine, silence, an end, and a connection that is refused.
@@ -30,5 +30,30 @@ fn bytes_silence_and_ends_pass_over_a_port(rt: HostRuntime) -> Result<(), Fail> 
     assert!(rt; link.reopen().is_ok());
     assert!(rt; link.write(b"hi") == LinkWrite::Done);
     assert!(rt; link.read(&mut into) == LinkAnswer::End);
+    Ok(())
+}
+
+/// What is written before a peer is there reaches it; behind its end the link takes the next one.
+#[test]
+fn a_link_listens_for_one_peer_after_the_other(rt: HostRuntime) -> Result<(), Fail> {
+    let alloc = rt.alloc();
+    let port = TcpListener::bind(&rt, "127.0.0.1:0")?.local_addr()?.port();
+    let mut link = ListenLink::new(rt, alloc, format!(in alloc; "127.0.0.1:{port}")?);
+    let mut into = [0; 8];
+    assert!(rt; link.write(b"hi") == LinkWrite::Done);
+    assert!(rt; link.read(&mut into) == LinkAnswer::Idle);
+
+    let mut peer = TcpStream::connect(&rt, ("127.0.0.1", port))?;
+    assert!(rt; link.read(&mut into) == LinkAnswer::Idle);
+    let mut heard = [0; 2];
+    peer.read_exact(&mut heard)?;
+    assert!(rt; heard.as_slice() == b"hi".as_slice());
+    peer.write_all(b"ho")?;
+    assert!(rt; link.read(&mut into) == LinkAnswer::Got(2));
+    drop(peer);
+    assert!(rt; link.read(&mut into) == LinkAnswer::End);
+
+    assert!(rt; link.reopen().is_ok());
+    assert!(rt; link.read(&mut into) == LinkAnswer::Idle);
     Ok(())
 }
