@@ -1,0 +1,4 @@
+pub mod Passing
+pub mod ShipRun
+pub mod ShipEndings
+pub mod Held

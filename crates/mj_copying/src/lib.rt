@@ -1,0 +1,10 @@
+//! What the two ends of a copy say, done over a link and a disk.
+#![tactic(auto)]
+
+mod reading;
+mod shipping;
+mod stop;
+mod writing;
+
+pub use shipping::{ShipEnding, run_ship};
+pub use stop::Stop;
