@@ -52,7 +52,14 @@ opens_log disks disk after mid asked size log same begun based all unspent settl
   payloads_of all.0,
   record {
     knows = record {
-      cmds = all.0; based = based; written = all.1.written; spells = refl; index_is = all.1.index_is; end_is = all.1.gate_is; spots_are = all.2; unspent = unspent;
+      cmds = all.0;
+      based = based;
+      written = all.1.written;
+      spells = refl;
+      index_is = all.1.index_is;
+      end_is = all.1.gate_is;
+      spots_are = all.2;
+      unspent = unspent;
     };
     settled = settled;
     file = λ history is. (settled_told history is settled, all.3 history (sym same ∙ is));

@@ -52,6 +52,7 @@ stands_at base payloads n d spot octets inside is stands =
     let place = in_place stands.0 (take n payloads) (get_or payloads n []) (drop (n + 1) payloads) octets size (subst (λ (ps : List (List ℕ)). Stands stands.0 ps octets) whole stands.2) in
     let end : end_of (take n payloads ++ get_or payloads n [] ∷ drop (n + 1) payloads) ≡ end_of payloads = ap end_of (sym whole) in
     let inner = ends_inside (end_of payloads) (record { octets = octets; synced = octets; ranges = []; greatest = 0 }) (stands.0, payloads, size, stands.2, refl) in
-    let here = place.1 in
-    (ap (λ (k : ℕ). take k (drop spot.at octets)) len_is ∙ ap (λ (k : ℕ). take (length (get_or payloads n [])) (drop k octets)) at_is ∙ place.0,
-      omega (arith, at_is, len_is, here, end, inner))
+    let here = place.1 in (
+      ap (λ (k : ℕ). take k (drop spot.at octets)) len_is ∙ ap (λ (k : ℕ). take (length (get_or payloads n [])) (drop k octets)) at_is ∙ place.0,
+      omega (arith, at_is, len_is, here, end, inner),
+    )

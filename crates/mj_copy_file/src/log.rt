@@ -144,7 +144,8 @@ impl Log {
         let Ok(()) = self.spots.push(Spot {
             at,
             len: payload.len(),
-        }) else {
+        })
+        else {
             return Err(LogFault::NoMemory);
         };
         match write(alloc, &mut self.journal, disk, payload) {

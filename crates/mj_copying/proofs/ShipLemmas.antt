@@ -29,7 +29,6 @@ all_join total [] b all more = more
 all_join total (x ∷ a) b all more = (all.0, all_join total a b all.1 more)
 
 module _ (total : ℕ) where
-
   still : (s : Shipping) → s.total ≡ total → Inside total (s, [])
   still s is = record { total_is = is; acts = tt }
 
@@ -45,8 +44,8 @@ module _ (total : ℕ) where
   takes End s is = ends s is
   takes (Have n) s is =
       pick (Inside total) (nat_lt n s.total) _ _
-        (λ less. let inside : n < total = omega (arith, ltb-true n s.total less, is) in record { total_is = is; acts = (inside, tt) })
-        (λ beyond. pick (Inside total) (n == s.total) _ _ (λ same. record { total_is = is; acts = (tt, (tt, tt)) }) (λ other. ends s is))
+      (λ less. let inside : n < total = omega (arith, ltb-true n s.total less, is) in record { total_is = is; acts = (inside, tt) })
+      (λ beyond. pick (Inside total) (n == s.total) _ _ (λ same. record { total_is = is; acts = (tt, (tt, tt)) }) (λ other. ends s is))
 
   joins : (most : ℕ) (turn : ShipTurn) → Inside total turn → ((s : Shipping) → s.total ≡ total → Inside total (ship_all most s)) → Inside total (ship_then (ship_all most) turn)
   joins most turn first rest =
@@ -70,7 +69,7 @@ module _ (total : ℕ) where
   begins : (e : LinkEvent) (s : Shipping) → s.total ≡ total → Inside total (ship_begins e s)
   begins e s is =
       pick (Inside total) s.begun _ _ (λ already. meets e s is)
-        (λ first. let m = meets e (record s { begun = true }) is in record { total_is = m.total_is; acts = (tt, m.acts) })
+      (λ first. let m = meets e (record s { begun = true }) is in record { total_is = m.total_is; acts = (tt, m.acts) })
 
   pub steps_inside : (e : LinkEvent) (s : Shipping) → s.total ≡ total → Inside total (ship_steps e s)
   steps_inside e s is = pick (Inside total) (is_going s.phase) _ _ (λ going. begins e s is) (λ over. still s is)
@@ -84,8 +83,8 @@ entries_append payloads (x ∷ xs) ys = ap (λ (l : List LinkEntry). entries_of 
 pub performs_more : (payloads : List (List ℕ)) (old mid now : Option (List LinkEntry)) (done : List ShipAct) (a : ShipAct) → Performs payloads old mid done → Tells mid now (entries_of payloads a) → Performs payloads old now (done ++ a ∷ [])
 performs_more payloads old mid now done a p m =
     tells_alike old now _ _
-      (sym (entries_append payloads done (a ∷ []) ∙ ap (λ (l : List LinkEntry). entries payloads done ++ l) (append-nil (entries_of payloads a))))
-      (tells_more old mid now (entries payloads done) (entries_of payloads a) p m)
+    (sym (entries_append payloads done (a ∷ []) ∙ ap (λ (l : List LinkEntry). entries payloads done ++ l) (append-nil (entries_of payloads a))))
+    (tells_more old mid now (entries payloads done) (entries_of payloads a) p m)
 
 pub performs_breaks : (payloads : List (List ℕ)) (old mid now : Option (List LinkEntry)) (acts done rest : List ShipAct) → acts ≡ done ++ rest → Performs payloads old mid done → now ≡ mid → Breaks payloads old now acts
 performs_breaks payloads old mid now acts done rest whole p same = record { done = done; rest = rest; whole = whole; told = tells_still old mid now (entries payloads done) p same }

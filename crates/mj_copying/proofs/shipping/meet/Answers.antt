@@ -17,7 +17,7 @@ pub returns-clause-broken : goal.returns-clause-broken
 returns-clause-broken g c =
     on_err c.perform_all.result
     (λ b payloads s.
-      part_met payloads c.in_ok-event.event (shipping_of c.args.end.now) c.as_slice.result.now _ (g.L.Link.told c.read_event.new.link) _ (c.as_slice.ensures.value ∙ c.in_ok-acts.ensures.turn.1) c.in_ok-event.ensures.told (b payloads s))
+    part_met payloads c.in_ok-event.event (shipping_of c.args.end.now) c.as_slice.result.now _ (g.L.Link.told c.read_event.new.link) _ (c.as_slice.ensures.value ∙ c.in_ok-acts.ensures.turn.1) c.in_ok-event.ensures.told (b payloads s))
     c.perform_all.ensures.broken
 
 pub returns-clause-total : goal.returns-clause-total

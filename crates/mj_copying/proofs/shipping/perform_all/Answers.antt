@@ -36,7 +36,7 @@ loop-act-preserved g c =
       held = e.held;
       done = λ payloads s.
           subst (λ (l : List ShipAct). Performs payloads old now l) (sym (taken_more acts i a c.loop-act-test.true c.act-item.is))
-            (performs_more payloads old mid now (take i acts) a (inv.done payloads s) (e.done payloads (subst (λ (t : Option History). StandsAt payloads c.args.log.now t) (sym inv.same) s)));
+          (performs_more payloads old mid now (take i acts) a (inv.done payloads s) (e.done payloads (subst (λ (t : Option History). StandsAt payloads c.args.log.now t) (sym inv.same) s)));
       later = later_more _ _ _ inv.later e.later;
       same = e.same ∙ inv.same;
       time = omega (arith, before, behind);

@@ -11,15 +11,15 @@ pub returns-in_err-end-clause-broken : goal.returns-in_err-end-clause-broken
 returns-in_err-end-clause-broken g c =
     let p = err_from_is_err_and c.from_residual.result c.from_residual.ensures.1 in
     rw p.1 (λ payloads s.
-      broke_off payloads (new_ship c.args.log.now.base (length payloads) c.args.tries) (new_ship c.args.log.now.base (length payloads) c.args.tries) _ (g.L.Link.told c.args.link.now) _
-        (ran_not payloads (new_ship c.args.log.now.base (length payloads) c.args.tries) (g.L.Link.told c.args.link.now)) (unmet payloads (new_ship c.args.log.now.base (length payloads) c.args.tries) (g.L.Link.told c.args.link.now) (g.L.Link.told c.args.link.now) refl))
+    broke_off payloads (new_ship c.args.log.now.base (length payloads) c.args.tries) (new_ship c.args.log.now.base (length payloads) c.args.tries) _ (g.L.Link.told c.args.link.now) _
+    (ran_not payloads (new_ship c.args.log.now.base (length payloads) c.args.tries) (g.L.Link.told c.args.link.now)) (unmet payloads (new_ship c.args.log.now.base (length payloads) c.args.tries) (g.L.Link.told c.args.link.now) (g.L.Link.told c.args.link.now) refl))
 
 pub returns-clause-shipped : goal.returns-clause-shipped
 returns-clause-shipped g c = λ payloads s.
     let base = c.args.log.now.base in
     let last = shipping_of c.meet_all.new.end in
     let first : shipping_of c.in_ok-end.end ≡ new_ship c.args.log.now.base (length payloads) c.args.tries =
-          c.in_ok-end.ensures.fresh ∙ ap (λ (b : ℕ). new_ship b c.count.result c.args.tries) c.base.ensures ∙ ap (λ (n : ℕ). new_ship c.args.log.now.base n c.args.tries) (c.count.ensures.count payloads s.knows) in
+    c.in_ok-end.ensures.fresh ∙ ap (λ (b : ℕ). new_ship b c.count.result c.args.tries) c.base.ensures ∙ ap (λ (n : ℕ). new_ship c.args.log.now.base n c.args.tries) (c.count.ensures.count payloads s.knows) in
     record {
       last = shipping_of c.meet_all.new.end;
       ran = subst (λ (t : Shipping). Ran payloads t (g.L.Link.told c.args.link.now) (g.L.Link.told c.meet_all.new.link) (shipping_of c.meet_all.new.end)) first (c.in_ok-meet_all.ensures.ran payloads s);

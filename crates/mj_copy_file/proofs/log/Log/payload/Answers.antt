@@ -10,7 +10,7 @@ read-requires g c = λ history is.
     let spot = c.index-spot.result.now in
     let inside : c.args.n < length held.0 = omega (arith, c.requires.inside, counted held.0 c.args.self.now (length c.args.self.now.spots.items) held.1.knows refl) in
     let here = stands_at c.args.self.now.base held.0 c.args.n c.index-spot.result.now c.index-spot.result.now history.now.octets inside
-          (c.index-spot.ensures ∙ ap (λ (l : List Spot). get_or l c.args.n c.index-spot.result.now) held.1.knows.spots_are) (held.1.file history is).1 in
+    (c.index-spot.ensures ∙ ap (λ (l : List Spot). get_or l c.args.n c.index-spot.result.now) held.1.knows.spots_are) (held.1.file history is).1 in
     let size : length c.as_mut_slice.result.now ≡ c.index-spot.result.now.len = ap length c.as_mut_slice.ensures.value ∙ c.in-Ok.ensures in
     let end = here.1 in
     omega (arith, size, end)
@@ -19,7 +19,7 @@ pub returns-clause-payload : goal.returns-clause-payload
 returns-clause-payload g c = λ history is payloads knows stands.
     let inside : c.args.n < length payloads = omega (arith, c.requires.inside, counted payloads c.args.self.now (length c.args.self.now.spots.items) knows refl) in
     let here = stands_at c.args.self.now.base payloads c.args.n c.index-spot.result.now c.index-spot.result.now history.now.octets inside
-          (c.index-spot.ensures ∙ ap (λ (l : List Spot). get_or l c.args.n c.index-spot.result.now) knows.spots_are) stands in
+    (c.index-spot.ensures ∙ ap (λ (l : List Spot). get_or l c.args.n c.index-spot.result.now) knows.spots_are) stands in
     let size : length c.as_mut_slice.result.now ≡ c.index-spot.result.now.len = ap length c.as_mut_slice.ensures.value ∙ c.in-Ok.ensures in
     let room = c.in-Ok.room.ok in
     let same : length c.read.new.into ≡ length c.as_mut_slice.result.now = c.read.auto.into in
@@ -31,9 +31,11 @@ returns-clause-payload g c = λ history is payloads knows stands.
 
 pub returns-clause-held : goal.returns-clause-held
 returns-clause-held g c =
-    let held = c.requires.held in
-    (held.0, record {
-      knows = held.1.knows;
-      settled = c.in-Ok-read.ensures.settled held.1.settled;
-      file = λ history is. held.1.file history (sym c.in-Ok-read.ensures.same ∙ is);
-    })
+    let held = c.requires.held in (
+      held.0,
+      record {
+        knows = held.1.knows;
+        settled = c.in-Ok-read.ensures.settled held.1.settled;
+        file = λ history is. held.1.file history (sym c.in-Ok-read.ensures.same ∙ is);
+      },
+    )

@@ -1,0 +1,3 @@
+pub mod ShipRows
+pub mod StatusLaws
+pub mod WordLemmas

@@ -1,0 +1,6 @@
+pub mod CopyWords
+pub mod Statuses
+pub mod CopyLines
+pub mod Refusing
+pub mod Endings
+pub mod ShipTable
