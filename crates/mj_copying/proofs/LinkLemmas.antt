@@ -1,5 +1,5 @@
 -- What a link tells, one thing behind the other; counts that don't fall.
-use Rattle.std.proofs.Common.{◌≡◌, ℕ, List, [], ◌∷◌, ◌++◌, refl, sym, ap, subst, ◌∙◌, append_assoc, append-nil, Option, None, Some, ◌≤◌, Result, Ok, Err, OnErr, arith}
+use Rattle.std.proofs.Common.{◌≡◌, ℕ, List, [], ◌∷◌, ◌++◌, refl, sym, ap, subst, ◌∙◌, append_assoc, append-nil, Option, None, Some, ◌≤◌, Result, Ok, Err, OnErr, IfErr, IfOk, arith}
 use Rattle.std.specs.Prelude.{OnOk}
 use Rattle.mj_base.specs.Linking.{Tells}
 use Rattle.mj_base.specs.declared.link.LinkEntry.{LinkEntry}
@@ -40,3 +40,21 @@ on_ok_always (Err e) q = tt
 pub on_err : {T E P Q : Type 0} (r : Result T E) → (P → Q) → OnErr r P → OnErr r Q
 on_err (Ok x) f p = p
 on_err (Err e) f p = f p
+
+pub if_ok : {T E : Type 0} {P Q : T → Type 0} (r : Result T E) → ((x : T) → P x → Q x) → IfOk r P → IfOk r Q
+if_ok (Ok x) f p = f x p
+if_ok (Err e) f p = p
+
+pub if_err : {T E : Type 0} {P Q : E → Type 0} (r : Result T E) → ((e : E) → P e → Q e) → IfErr r P → IfErr r Q
+if_err (Ok x) f p = p
+if_err (Err e) f p = f e p
+
+pub if_err_both : {T E A : Type 0} {P Q : E → Type 0} (r : Result T E) → ((e : E) → A → P e → Q e) → OnErr r A → IfErr r P → IfErr r Q
+if_err_both (Ok x) f a p = p
+if_err_both (Err e) f a p = f e a p
+
+pub later_none : (a : Counts) → AreLater a a
+later_none a = record { reads = le_refl a.reads; writes = le_refl a.writes; disk = le_refl a.disk }
+  where
+    le_refl : (n : ℕ) → n ≤ n
+    le_refl n = omega arith
