@@ -4,3 +4,4 @@ pub mod CopyLines
 pub mod Refusing
 pub mod Endings
 pub mod ShipTable
+pub mod FollowTable

@@ -2,10 +2,12 @@
 #![tactic(auto)]
 
 mod finish;
+mod following;
 mod line;
 mod refusal;
 mod shipping;
 mod status;
 mod words;
 
+pub use following::follow;
 pub use shipping::ship;
