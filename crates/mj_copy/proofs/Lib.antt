@@ -1,0 +1,2 @@
+pub mod ShipSweep
+pub mod FollowSweep

@@ -1,0 +1,4 @@
+pub mod LogReads
+pub mod LogOpens
+pub mod LogSpots
+pub mod LogAppends

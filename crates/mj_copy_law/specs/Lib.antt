@@ -1,0 +1,4 @@
+pub mod World
+pub mod CopyLaw
+pub mod MessageLaws
+pub mod CopyRuns

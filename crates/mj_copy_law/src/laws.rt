@@ -1,0 +1,15 @@
+//! Laws of messages and of the world. The functions do nothing.
+ghost use Rattle.mj_copy_law.specs.CopyLaw.{CopyIsAPrefix};
+ghost use Rattle.mj_copy_law.specs.MessageLaws.{FrontsAreRead, WrittenIsRead};
+
+/// Each message that can be written is read, whatever follows; and a front of it, and of what follows, reads as this
+/// message or as the start of one.
+pub fn messages_are_read()
+    ensures written { WrittenIsRead }
+    ensures fronts { FrontsAreRead }
+{}
+
+/// Whatever the links and crashes do, the copy is a prefix of the source.
+pub fn the_copy_is_a_prefix()
+    ensures { CopyIsAPrefix }
+{}

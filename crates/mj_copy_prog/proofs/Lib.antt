@@ -1,0 +1,4 @@
+pub mod ShipRows
+pub mod StatusLaws
+pub mod WordLemmas
+pub mod FollowRows

@@ -1,0 +1,4 @@
+pub mod LinkLemmas
+pub mod ShipLemmas
+pub mod FollowSound
+pub mod FollowLemmas
