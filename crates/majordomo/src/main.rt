@@ -3,10 +3,12 @@
 #![tactic(auto)]
 
 mod compacting;
+mod copying;
 mod peering;
 mod serving;
 
 use compacting::{is_compact, run_compact};
+use copying::{is_copying, run_copying};
 use mj_base::{NoMemory, Octets, StdSink, StdSource};
 use mj_disk::{Disk, FileDisk, MemoryDisk};
 use mj_host::broker_words;
@@ -39,6 +41,10 @@ fn main(rt: HostRuntime) -> ExitCode {
     if is_compact(&words) {
         let mut sink = StdSink::new(io::writer(&rt));
         return ExitCode::from(run_compact(&rt, alloc, &words, &mut sink));
+    }
+    if is_copying(&words) {
+        let mut sink = StdSink::new(io::writer(&rt));
+        return ExitCode::from(run_copying(rt, alloc, &words, &mut sink));
     }
     ExitCode::from(run_over_disk(&rt, &words))
 }

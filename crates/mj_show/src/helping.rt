@@ -4,7 +4,8 @@ ghost use Rattle.mj_show.specs.Helping.{Helps};
 use mj_base::{Sink, WriteAnswer};
 
 /// The line that names the commands.
-const COMMANDS: &[u8] = b"commands help replay tickets show broker client worker compact\n";
+const COMMANDS: &[u8] =
+    b"commands help replay tickets show broker client worker compact ship follow\n";
 
 /// Prints the names of the commands; answers the status that the program exits with.
 pub fn help<K: Sink>(out: &mut K) -> u8

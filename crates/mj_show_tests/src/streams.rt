@@ -89,7 +89,8 @@ fn the_commands_are_named(rt: HostRuntime) -> Result<(), Fail> {
     let mut out = MemorySink::new(alloc, Vec::new(alloc));
     assert!(rt; help(&mut out) == 0);
     assert!(rt;
-        out.written() == b"commands help replay tickets show broker client worker compact\n".as_slice()
+        out.written()
+            == b"commands help replay tickets show broker client worker compact ship follow\n".as_slice()
     );
     Ok(())
 }
