@@ -71,20 +71,35 @@ fn goes_on(
     Ok(done && found == state && holds(alloc, disk, header, len)?)
 }
 
-/// A store over a file that begins so, and what it makes of a ticket's life.
+/// Whether the first ticket is accepted and answered.
+fn is_answered(
+    alloc: Global,
+    store: &mut Store,
+    disk: &mut MemoryDisk,
+    header: &[u8; 16],
+) -> Result<bool, Fail>
+    requires { store.old.spent ≡ false → IsHeld ⟦<MemoryDisk as Disk>⟧ store.old disk.old }
+    ensures { store.new.spent ≡ false → IsHeld ⟦<MemoryDisk as Disk>⟧ store.new disk.new }
+{
+    let accepted = (Call::Accept, TicketState::Pending, 35);
+    if !goes_on(alloc, store, disk, header, accepted)? {
+        return Ok(false);
+    }
+    let answered = (Call::Reply, TicketState::Stored, 58);
+    goes_on(alloc, store, disk, header, answered)
+}
+
+/// Whether a ticket lives and ends as it should over a file that begins so.
 fn lives(alloc: Global, start: &[u8], header: &[u8; 16]) -> Result<bool, Fail> {
     let mut disk = disk_of(alloc, start, Vec::new(alloc))?;
     let Ok(mut store) = Store::open(alloc, &Limits::standard(), &mut disk) else {
         return Ok(false);
     };
-    let accepted = (Call::Accept, TicketState::Pending, 35);
-    let answered = (Call::Reply, TicketState::Stored, 58);
+    if !is_answered(alloc, &mut store, &mut disk, header)? {
+        return Ok(false);
+    }
     let closed = (Call::Close, TicketState::Unknown, 72);
-    Ok(
-        goes_on(alloc, &mut store, &mut disk, header, accepted)?
-            && goes_on(alloc, &mut store, &mut disk, header, answered)?
-            && goes_on(alloc, &mut store, &mut disk, header, closed)?,
-    )
+    goes_on(alloc, &mut store, &mut disk, header, closed)
 }
 
 #[test]
