@@ -45,12 +45,8 @@ changed None false f = refl
 changed (Some h) true f = refl
 changed (Some h) false f = refl
 
-known-if : (k : Bool) (h : Hand) → IsSome (cond k (Some h) None) → k ≡ true
-known-if true h there = refl
-known-if false h there = absurd (true≢false (sym there))
-
-pub is-known : (t : Tables) (es : List Event) (who : List ℕ) → IsSome (hand_at t.peers who) → Stands t es → is_known who es ≡ true
-is-known t es who there s = known-if (is_known who es) (hand who es) (subst (λ (o : Option Hand). IsSome o) (s.hands who) there)
+pub there-known : (t : Tables) (es : List Event) (who : List ℕ) → is_known who es ≡ true → Stands t es → IsSome (hand_at t.peers who)
+there-known t es who there s = ap (λ (o : Option Hand). is_some o) (s.hands who) ∙ ap (λ (k : Bool). is_some (cond k (Some (hand who es)) None)) there
 
 same-known : (es : List Event) (who q : List ℕ) → is_known who es ≡ true → bytes_eq who q ≡ true → is_known q es ≡ true
 same-known es who q there same = subst (λ (x : List ℕ). is_known x es ≡ true) (bytes-same who q same) there

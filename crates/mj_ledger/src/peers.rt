@@ -49,9 +49,8 @@ pub(crate) fn ask(
     service: &[u8],
     body: Frames,
 ) -> Result<(), NoMemory>
-    requires known { IsSome (hand_at peers.old who.now) }
     ensures hands { (q : List ℕ) → hand_at peers.new q ≡ hand_at peers.old q }
-    ensures queues { OnOk result ((q s : List ℕ) → queue_at peers.new q s ≡ (if bytes_eq who.now q && bytes_eq service.now s then queue_at peers.old q s ++ body ∷ [] else queue_at peers.old q s)) }
+    ensures queues { OnOk result (IsSome (hand_at peers.old who.now) → (q s : List ℕ) → queue_at peers.new q s ≡ (if bytes_eq who.now q && bytes_eq service.now s then queue_at peers.old q s ++ body ∷ [] else queue_at peers.old q s)) }
 {
     match peers.get_mut(who) {
         Some(peer) => peer.ask(alloc, service, body),

@@ -1,11 +1,12 @@
 //! What an audit keeps of the events so far.
-ghost use Rattle.std.specs.Prelude.{◌≡◌, ◌++◌, ◌∷◌, ◌&&◌, [], true, false, None, List, length, nat_lt, is_some, OnOk, IsSome};
+ghost use Rattle.std.specs.Prelude.{◌≡◌, ◌++◌, ◌∷◌, ◌&&◌, [], true, false, None, List, length, nat_lt, is_some, OnOk};
 ghost use Rattle.std.specs.List.{list_any};
 ghost use Rattle.mj_ledger.specs.Dues.{waits_for_of};
 ghost use Rattle.mj_ledger.specs.Events.{Event, Opened, Asked, Ready, Replied, Given, Answered, Lapsed, Left, Wrong};
 ghost use Rattle.mj_ledger.specs.Events;
 ghost use Rattle.mj_ledger.specs.Found.{hand_at, queue_at};
 ghost use Rattle.mj_ledger.specs.Standing.{Stands};
+ghost use Rattle.mj_ledger.specs.Standing;
 ghost use Rattle.mj_ledger.specs.TranscriptLaws.{nobody_is_kept};
 
 use super::Peer;
@@ -81,10 +82,9 @@ impl Tables {
         service: &[u8],
         body: Frames,
     ) -> Result<(), NoMemory>
-        requires known { IsSome (hand_at self.old.peers who.now) }
         requires judged { Events.is_passed service.now ≡ false }
         requires settled { self.old.suspect ≡ None }
-        ensures stands { OnOk result ((es : List Event) → Stands self.old es → Stands self.new (es ++ Asked who.now service.now body ∷ [])) }
+        ensures stands { OnOk result ((es : List Event) → Standing.is_known who.now es ≡ true → Stands self.old es → Stands self.new (es ++ Asked who.now service.now body ∷ [])) }
     {
         ask(&mut self.peers, alloc, who, service, body)?;
         self.suspect = Some(Octets::copy_of(alloc, service)?);
@@ -93,9 +93,8 @@ impl Tables {
 
     /// A connection says that it serves.
     pub fn ready(&mut self, alloc: Global, who: &[u8], service: &[u8]) -> Result<(), NoMemory>
-        requires known { IsSome (hand_at self.old.peers who.now) }
         requires settled { self.old.suspect ≡ None }
-        ensures stands { OnOk result ((es : List Event) → Stands self.old es → Stands self.new (es ++ Ready who.now service.now ∷ [])) }
+        ensures stands { OnOk result ((es : List Event) → Standing.is_known who.now es ≡ true → Stands self.old es → Stands self.new (es ++ Ready who.now service.now ∷ [])) }
     {
         let name = Octets::copy_of(alloc, service)?;
         change(&mut self.peers, who, Change::Ready(name));
@@ -112,9 +111,8 @@ impl Tables {
         to: &[u8],
         body: &Frames,
     ) -> Result<(), NoMemory>
-        requires known { IsSome (hand_at self.old.peers who.now) }
         requires settled { self.old.suspect ≡ None }
-        ensures stands { OnOk result ((es : List Event) → Stands self.old es → Stands self.new (es ++ Replied who.now last to.now body.now ∷ [])) }
+        ensures stands { OnOk result ((es : List Event) → Standing.is_known who.now es ≡ true → Stands self.old es → Stands self.new (es ++ Replied who.now last to.now body.now ∷ [])) }
     {
         let owing = owing_service(&self.peers, alloc, who, to)?;
         credit(&mut self.credits, alloc, to, owing, last, body)?;
@@ -132,8 +130,7 @@ impl Tables {
         to: &[u8],
         body: &Frames,
     ) -> Result<(), NoMemory>
-        requires known { IsSome (hand_at self.old.peers who.now) }
-        ensures stands { OnOk result ((es : List Event) → Stands self.old es → Stands self.new (es ++ Given who.now to.now body.now ∷ [])) }
+        ensures stands { OnOk result ((es : List Event) → Standing.is_known who.now es ≡ true → Stands self.old es → Stands self.new (es ++ Given who.now to.now body.now ∷ [])) }
     {
         self.busy = both(self.busy, waits(&self.peers, who));
         let service = judged_service(&self.peers, alloc, who)?;
@@ -162,16 +159,14 @@ impl Tables {
 
     /// The broker takes this worker's lease as ended.
     pub fn lapsed(&mut self, who: &[u8])
-        requires known { IsSome (hand_at self.old.peers who.now) }
-        ensures stands { (es : List Event) → Stands self.old es → Stands self.new (es ++ Lapsed who.now ∷ []) }
+        ensures stands { (es : List Event) → Standing.is_known who.now es ≡ true → Stands self.old es → Stands self.new (es ++ Lapsed who.now ∷ []) }
     {
         change(&mut self.peers, who, Change::Lapse);
     }
 
     /// A connection is gone.
     pub fn left(&mut self, who: &[u8])
-        requires known { IsSome (hand_at self.old.peers who.now) }
-        ensures stands { (es : List Event) → Stands self.old es → Stands self.new (es ++ Left who.now ∷ []) }
+        ensures stands { (es : List Event) → Standing.is_known who.now es ≡ true → Stands self.old es → Stands self.new (es ++ Left who.now ∷ []) }
     {
         change(&mut self.peers, who, Change::Leave);
         leave(&mut self.present, who);

@@ -21,7 +21,7 @@ pub returns-in-Some-clause-queues : goal.returns-in-Some-clause-queues
 returns-in-Some-clause-queues c =
     let w : Peer = c.ask.new.self in
     on-ok c.ask.result
-    (λ more q s.
+    (λ more known q s.
     lent c.args.peers.now (c.get_mut.follows.lender w) c.args.who.now (Some c.in-Some.peer.now) w (λ (o : Option Peer). queue_of o s) (λ l. cond (bytes_eq c.args.service.now s) (l ++ c.args.body ∷ []) l)
     (book-updates c.args.who.now c.args.peers.now (c.get_mut.follows.lender w) (Some w) ((c.get_mut.follows.holds w).3 (search rules)))
     (sym c.in-Some.ensures.value)
