@@ -1,0 +1,5 @@
+pub mod HearLemmas
+pub mod LineLemmas
+pub mod StepLemmas
+pub mod CalmLemmas
+pub mod KindLemmas

@@ -1,0 +1,10 @@
+pub mod Lists
+pub mod BookLemmas
+pub mod HandLemmas
+pub mod LawLemmas
+pub mod WaitLemmas
+pub mod StandLemmas
+pub mod KeyLemmas
+pub mod PresentLemmas
+pub mod EventLemmas
+pub mod ClearLemmas

@@ -1,0 +1,9 @@
+pub mod Moments
+pub mod Events
+pub mod Workers
+pub mod TranscriptLaws
+pub mod Hands
+pub mod Keys
+pub mod Found
+pub mod Dues
+pub mod Standing
