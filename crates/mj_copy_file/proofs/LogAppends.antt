@@ -1,5 +1,5 @@
 -- What an append makes of a list, and why a payload is refused.
-use Rattle.std.proofs.Common.{◌≡◌, ◌≢◌, ℕ, ◌+◌, ◌≤◌, ◌⊎◌, true, false, List, [], ◌∷◌, ◌++◌, length, Option, Some, None, is_some, refl, sym, ◌∙◌, ap, subst, inl, inr, arith}
+use Rattle.std.proofs.Common.{◌≡◌, ℕ, ◌+◌, ◌≤◌, false, List, [], ◌∷◌, ◌++◌, length, Option, Some, None, is_some, refl, sym, ◌∙◌, ap, subst, inl, inr, arith}
 use Rattle.std.specs.List.{AllByRecursion}
 use Rattle.mj_disk.specs.Content.{Content, IsImage}
 use Rattle.mj_disk.specs.DiskModel.{History, IsSettled, LeavesOnly, Now, latest}
@@ -9,16 +9,15 @@ use Rattle.mj_disk.proofs.Moments.{leaves_weaker, rests, told_before}
 use Rattle.mj_journal.specs.Appending.{Appends, CrashesOldOrNew, EndsAt, StandsForEither}
 use Rattle.mj_journal.specs.FileText.{IsHeader, Stands, StandsFor, end_of}
 use Rattle.mj_journal.proofs.Files.{end_of-push, length-header}
-use Rattle.mj_store.specs.Commands.{IsLawful, IsWritten, index_of, payloads_of}
+use Rattle.mj_store.specs.Commands.{IsWritten, index_of, payloads_of}
 use Rattle.mj_store.proofs.Adding.{index-push, nothing_written, payloads-push, written-push}
 use Rattle.mj_store.proofs.Beginning.{same_cmds}
-use Rattle.mj_tickets.specs.Fold.{Fold, applied}
+use Rattle.mj_tickets.specs.Fold.{applied}
 use Rattle.mj_tickets.specs.Index.{place_in}
 use Rattle.mj_tickets.specs.Payload.{IsCommand, payload_of}
 use Rattle.mj_tickets.specs.declared.command.TicketCmd.{TicketCmd}
-use Rattle.mj_tickets.specs.declared.place.Place.{Place}
 use Rattle.mj_tickets.proofs.AgainLemmas.{one_command}
-use Rattle.mj_copy_file.specs.Logs.{AppendsOne, AreLawful, Holds, IsEither, IsHeld, IsNext, IsSettledAs, Knows, LeavesEither, RefusesOne, spots_from}
+use Rattle.mj_copy_file.specs.Logs.{AppendsOne, IsEither, IsHeld, IsNext, IsSettledAs, Knows, LeavesEither, RefusesOne}
 use Rattle.mj_copy_file.specs.declared.log.Log.{Log}
 use Rattle.mj_copy_file.specs.declared.spot.Spot.{Spot}
 use Rattle.mj_copy_file.proofs.LogReads.{spots_push}

@@ -1,7 +1,6 @@
 -- What an opening finds is the list as which the bytes opened.
-use Rattle.std.proofs.Common.{◌≡◌, ℕ, ◌+◌, ◌≤◌, ◌⊎◌, true, false, List, [], ◌∷◌, ◌++◌, length, Option, Some, None, is_some, refl, sym, ◌∙◌, ap, subst, inl, inr, append-nil, arith}
-use Rattle.mj_disk.specs.Content.{Content}
-use Rattle.mj_disk.specs.DiskModel.{History, IsSettled, Now}
+use Rattle.std.proofs.Common.{◌≡◌, ℕ, false, List, [], ◌∷◌, ◌++◌, length, Option, Some, is_some, refl, sym, ◌∙◌, ap, subst, inl, inr, append-nil, arith}
+use Rattle.mj_disk.specs.DiskModel.{History, IsSettled}
 use Rattle.mj_disk.specs.declared.disk.Disk.{Ghosts}
 use Rattle.mj_disk.proofs.Moments.{told_before}
 use Rattle.mj_journal.specs.FileText.{Opens, Stands, StandsFor, header_2}
@@ -13,7 +12,7 @@ use Rattle.mj_journal.proofs.Unique.{opens_once, stands_once}
 use Rattle.mj_store.specs.Commands.{IsBase, payloads_of}
 use Rattle.mj_tickets.specs.Fold.{Fold, start}
 use Rattle.mj_tickets.specs.declared.place.Place.{Place}
-use Rattle.mj_copy_file.specs.Logs.{Finds, Holds, IsSettledAs, Knows, OpensLog, spots_from}
+use Rattle.mj_copy_file.specs.Logs.{OpensLog}
 use Rattle.mj_copy_file.specs.LogReading.{HasAll, HasRead}
 use Rattle.mj_copy_file.specs.declared.log.Log.{Log}
 use Rattle.mj_copy_file.specs.declared.spot.Spot.{Spot}

@@ -1,14 +1,10 @@
 -- Where payloads stand.
-use Rattle.std.proofs.Common.{◌≡◌, ℕ, zero, suc, ◌+◌, ◌<◌, ◌≤◌, ◌^◌, List, [], ◌∷◌, ◌++◌, length, get_or, take, drop, Option, Some, refl, sym, ◌∙◌, ap, subst, arith, length-append}
+use Rattle.std.proofs.Common.{◌≡◌, ℕ, zero, suc, ◌+◌, ◌<◌, ◌≤◌, ◌^◌, List, [], ◌∷◌, ◌++◌, length, get_or, take, drop, refl, sym, ◌∙◌, ap, subst, arith}
 use Rattle.std.proofs.lemmas.List.{drop_more, take-append-drop}
-use Rattle.mj_disk.specs.Content.{Content}
-use Rattle.mj_disk.specs.DiskModel.{History, Now}
-use Rattle.mj_disk.specs.declared.disk.Disk.{Ghosts}
-use Rattle.mj_journal.specs.Appending.{EndsAt}
 use Rattle.mj_journal.specs.FileText.{Stands, StandsFor, end_of, sizes}
 use Rattle.mj_journal.proofs.Files.{length-header}
 use Rattle.mj_journal.proofs.Standing.{ends_inside, in_place}
-use Rattle.mj_copy_file.specs.Logs.{Holds, IsHeld, IsSettledAs, Knows, spots_from}
+use Rattle.mj_copy_file.specs.Logs.{Knows, spots_from}
 use Rattle.mj_copy_file.specs.declared.log.Log.{Log}
 use Rattle.mj_copy_file.specs.declared.spot.Spot.{Spot}
 

@@ -1,5 +1,5 @@
 -- A run of follow, piece by piece.
-use Rattle.std.proofs.Common.{◌≡◌, ◌≢◌, ℕ, zero, suc, ◌+◌, ◌<◌, ◌≤◌, ◌^◌, ◌⊎◌, Bool, true, false, cond, List, [], ◌∷◌, ◌++◌, length, take, drop, get_or, Option, None, Some, is_some, refl, sym, ap, subst, ◌∙◌, inl, inr, ⊎_elim, arith, append_assoc, append-nil, length-append}
+use Rattle.std.proofs.Common.{◌≡◌, ℕ, ◌+◌, ◌<◌, ◌≤◌, ◌^◌, ◌⊎◌, Bool, true, false, List, [], ◌∷◌, ◌++◌, length, take, drop, get_or, Option, None, Some, is_some, refl, sym, ap, subst, ◌∙◌, inl, inr, ⊎_elim, arith, append_assoc, append-nil, length-append}
 use Rattle.std.proofs.lemmas.List.{take-append-drop, take_more}
 use Rattle.mj_base.specs.Linking.{Tells}
 use Rattle.mj_base.specs.declared.link.LinkEntry.{LinkEntry}
@@ -7,24 +7,23 @@ use Rattle.mj_base.specs.declared.link.LinkEvent.{LinkEvent}
 use Rattle.mj_base.specs.declared.link.LinkEvent.TheVariants as event
 use Rattle.mj_copy.specs.FollowRules.{FollowTurn, Following, follow_appended, follow_opened, follow_steps, new_follow}
 use Rattle.mj_copy.specs.FollowStands.{IsTurn, following_of}
-use Rattle.mj_copy.specs.declared.awaits.Awaits.{Awaits}
 use Rattle.mj_copy.specs.declared.awaits.Awaits.TheVariants as waits
 use Rattle.mj_copy.specs.declared.follow.Follow.{Follow}
 use Rattle.mj_copy.specs.declared.follow_act.FollowAct.{FollowAct}
-use Rattle.mj_copy_file.specs.Logs.{AppendsOne, Finds, Holds, IsEither, IsHeld, IsNext, IsSettledAs, Knows, LeavesEither, OpensLog}
+use Rattle.mj_copy_file.specs.Logs.{AppendsOne, Holds, IsEither, IsHeld, IsNext, Knows, LeavesEither, OpensLog}
 use Rattle.mj_copy_file.specs.declared.log.Log.{Log}
 use Rattle.mj_copy_file.proofs.LogSpots.{counted, counts_few}
 use Rattle.mj_copying.specs.FollowFile.{CrashesBetween, FileIs, IsBetween, has_then}
-use Rattle.mj_copying.specs.FollowRun.{Appended, BrokeOff, Copying, Doing, Followed, IsCut, IsDue, IsFound, Opened, AreDue, Refused, Took, after, done_by, entries, entries_of, new_copying, read_of, round, tale, turn_at}
+use Rattle.mj_copying.specs.FollowRun.{Appended, Copying, Doing, IsCut, IsDue, IsFound, Opened, AreDue, Refused, Took, after, done_by, entries, entries_of, new_copying, read_of, round, tale, turn_at}
 use Rattle.mj_copying.specs.FollowRun.{after as after_doing}
 use Rattle.mj_copying.specs.FollowState.{Began, Breaks, BrokenBy, Goes, HaltCause, Halts, HasEither, IsCutIn, IsRead, IsRunning, IsWhy, IsWhyOf, Left, Performs, Runs, Sound, Stopped, Turned, goes_behind}
 use Rattle.mj_base.specs.Rising.{Rose}
-use Rattle.mj_copying.specs.Passing.{AreLater, Cause, Counts, entry_of}
+use Rattle.mj_copying.specs.Passing.{AreLater, Counts, entry_of}
 use Rattle.mj_copying.specs.declared.following.FollowStop.{FollowStop}
 use Rattle.mj_copying.specs.declared.following.FollowStop.TheVariants as halts
 use Rattle.mj_copying.specs.declared.stop.Stop.{Stop}
 use Rattle.mj_copying.specs.declared.stop.Stop.TheVariants as stops
-use Rattle.mj_copying.proofs.FollowSound.{Keeps, appended_keep, fresh, opened_keep, steps_keep}
+use Rattle.mj_copying.proofs.FollowSound.{appended_keep, fresh, opened_keep, steps_keep}
 use Rattle.mj_copying.proofs.LinkLemmas.{tells_alike, tells_more, tells_same, tells_still}
 use Rattle.mj_disk.specs.Content.{Content, IsImage, settled}
 use Rattle.mj_disk.specs.DiskModel.{CrashesAs, History, IsSettled, LeavesOnly, Now, latest}

@@ -1,18 +1,16 @@
 -- What stays true of follow's state, whatever is read: it appends only to an open file, opens one once, and knows how many
 -- commands that has.
-use Rattle.std.proofs.Common.{◌≡◌, ℕ, zero, suc, ◌+◌, ◌<◌, ◌≤◌, ◌^◌, Bool, true, false, cond, ◌==◌, ◌&&◌, ◌||◌, nat_lt, nat_le, List, [], ◌∷◌, ◌++◌, length, take, drop, refl, sym, ap, subst, ◌∙◌, arith, Option, None, Some}
+use Rattle.std.proofs.Common.{◌≡◌, ℕ, zero, suc, ◌+◌, ◌≤◌, ◌^◌, Bool, true, false, cond, ◌==◌, ◌&&◌, ◌||◌, nat_lt, nat_le, List, [], ◌∷◌, ◌++◌, length, take, drop, refl, ap, subst, ◌∙◌, Option, None, Some}
 use Rattle.std.proofs.lemmas.Bool.{leb-true}
 use Rattle.mj_base.specs.declared.link.LinkEvent.{LinkEvent}
 use Rattle.mj_base.specs.declared.link.LinkEvent.TheVariants as event
 use Rattle.mj_frame.specs.declared.head.HeadAnswer.{HeadAnswer}
 use Rattle.mj_frame.specs.declared.head.HeadAnswer.TheVariants as answers
 use Rattle.mj_frame.specs.HeadReading.{head_at}
-use Rattle.mj_copy.specs.FollowRules.{FollowTurn, Following, answers_have, awaits_link, follow_all, follow_appended, follow_ends, follow_gains, follow_idles, follow_meets, follow_opened, follow_read, follow_steps, follow_takes, follow_then, goes_on, new_follow, takes_base, takes_end, takes_send}
+use Rattle.mj_copy.specs.FollowRules.{FollowTurn, Following, answers_have, awaits_link, follow_all, follow_appended, follow_ends, follow_idles, follow_meets, follow_opened, follow_read, follow_steps, follow_takes, follow_then, goes_on, new_follow, takes_base, takes_send}
 use Rattle.mj_copy.specs.Messages.{Message, Base, Have, Send, End, Reading, Short, Whole, Wrong, base_in, behind_head, headed, is_canonical, is_size, lettered, message_in, number_in, numbered, read_as, reading}
 use Rattle.mj_copy.specs.ShipRules.{is_going}
 use Rattle.mj_copying.specs.FollowState.{Sound}
-use Rattle.mj_copy.specs.declared.awaits.Awaits.{Awaits}
-use Rattle.mj_copy.specs.declared.awaits.Awaits.TheVariants as waits
 
 pick : {A : Type 0} (P : A → Type 0) (b : Bool) (x y : A) → (b ≡ true → P x) → (b ≡ false → P y) → P (cond {A = A} b x y)
 pick P true x y one other = one refl

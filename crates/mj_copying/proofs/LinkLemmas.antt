@@ -1,5 +1,5 @@
 -- What a link tells, one thing behind the other; counts that don't fall.
-use Rattle.std.proofs.Common.{◌≡◌, ℕ, List, [], ◌∷◌, ◌++◌, refl, sym, ap, subst, ◌∙◌, append_assoc, append-nil, Option, None, Some, ◌≤◌, Result, Ok, Err, OnErr, IfErr, IfOk, arith}
+use Rattle.std.proofs.Common.{◌≡◌, ℕ, List, [], ◌++◌, sym, ap, subst, ◌∙◌, append_assoc, append-nil, Option, None, Some, ◌≤◌, Result, Ok, Err, OnErr, IfErr, IfOk, arith}
 use Rattle.std.specs.Prelude.{OnOk}
 use Rattle.mj_base.specs.Linking.{Tells}
 use Rattle.mj_base.specs.declared.link.LinkEntry.{LinkEntry}

@@ -1,15 +1,14 @@
 -- A run of ship, step by step.
-use Rattle.std.proofs.Common.{◌≡◌, ℕ, zero, suc, ◌+◌, ◌<◌, ◌≤◌, ◌⊎◌, Bool, true, false, cond, ◌==◌, nat_lt, List, [], ◌∷◌, ◌++◌, take, drop, length, get_or, refl, sym, ap, subst, ◌∙◌, inl, inr, arith, append_assoc, append-nil, ltb-true, Option, None, Some}
-use Rattle.std.proofs.lemmas.List.{drop_more, take-append-drop, take_more}
+use Rattle.std.proofs.Common.{◌≡◌, ℕ, zero, suc, ◌+◌, ◌<◌, ◌⊎◌, Bool, true, false, cond, ◌==◌, nat_lt, List, [], ◌∷◌, ◌++◌, take, length, get_or, refl, sym, ap, subst, ◌∙◌, inl, inr, arith, append_assoc, append-nil, ltb-true, Option}
+use Rattle.std.proofs.lemmas.List.{take_more}
 use Rattle.std.specs.List.{AllByRecursion}
 use Rattle.mj_base.specs.Linking.{Tells}
 use Rattle.mj_base.specs.declared.link.LinkEntry.{LinkEntry}
 use Rattle.mj_base.specs.declared.link.LinkEvent.{LinkEvent}
 use Rattle.mj_base.specs.declared.link.LinkEvent.TheVariants as event
-use Rattle.mj_copy.specs.Messages.{Message, Base, Have, Send, End, Reading, Short, Whole, Wrong, octets_of, reading}
-use Rattle.mj_copy.specs.ShipRules.{ShipTurn, Shipping, is_going, ship_all, ship_begins, ship_ends, ship_gains, ship_idles, ship_meets, ship_read, ship_runs, ship_steps, ship_takes, ship_then}
+use Rattle.mj_copy.specs.Messages.{Message, Base, Have, Send, End, Reading, Short, Whole, Wrong, reading}
+use Rattle.mj_copy.specs.ShipRules.{ShipTurn, Shipping, is_going, ship_all, ship_begins, ship_ends, ship_idles, ship_meets, ship_read, ship_runs, ship_steps, ship_takes, ship_then}
 use Rattle.mj_copy.specs.declared.ship_act.ShipAct.{ShipAct}
-use Rattle.mj_copy.specs.declared.ship_act.ShipAct.TheVariants as act
 use Rattle.mj_copying.specs.Passing.{entry_of}
 use Rattle.mj_copying.specs.ShipRun.{Breaks, BrokeOff, IsCut, IsInside, Met, PartMet, Performs, Ran, entries, entries_of, round, tale}
 use Rattle.mj_copying.proofs.LinkLemmas.{tells_alike, tells_more, tells_same, tells_still}

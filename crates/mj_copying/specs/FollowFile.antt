@@ -1,14 +1,11 @@
 -- The file of a run of follow: what the disk holds, and what a crash may leave.
-use Rattle.std.specs.Prelude.{ℕ, ◌≡◌, ◌⊎◌, Bool, true, false, List, [], ◌∷◌, ◌++◌, Option, None, Some, if◌then◌else◌}
-use Rattle.mj_copy.specs.FollowStands.{following_of}
-use Rattle.mj_copy.specs.declared.follow.Follow.{Follow}
+use Rattle.std.specs.Prelude.{ℕ, ◌≡◌, Bool, true, false, List, ◌++◌, Option, None, Some, if◌then◌else◌}
 use Rattle.mj_copy_file.specs.Logs.{Holds}
 use Rattle.mj_copy_file.specs.declared.log.Log.{Log}
 use Rattle.mj_copying.specs.FollowRun.{Copying}
-use Rattle.mj_disk.specs.Content.{Content, IsImage}
-use Rattle.mj_disk.specs.DiskModel.{History, IsSettled, LeavesOnly, Now}
+use Rattle.mj_disk.specs.DiskModel.{History, IsSettled, LeavesOnly}
 use Rattle.mj_disk.specs.declared.disk.Disk.{Ghosts}
-use Rattle.mj_journal.specs.FileText.{Opens, OpensAs, StandsFor}
+use Rattle.mj_journal.specs.FileText.{Opens, OpensAs}
 
 -- it is open and settled, and stands for the payloads with the end's base; or the disk is as it was at the start
 abbrev pub FileIs : {D : Type 0} → Ghosts D → Option History → Copying → Option Log → D → Type 0

@@ -1,5 +1,5 @@
 -- A run of follow over a link and a file: what it did in each turn, and what passed on the link.
-use Rattle.std.specs.Prelude.{ℕ, ◌≡◌, ◌≢◌, ◌⊎◌, true, false, List, [], ◌∷◌, ◌++◌, length, Option, Some, if◌then◌else◌}
+use Rattle.std.specs.Prelude.{ℕ, ◌≡◌, ◌⊎◌, List, [], ◌∷◌, ◌++◌, length, Option, Some}
 use Rattle.mj_base.specs.Linking.{Tells}
 use Rattle.mj_base.specs.declared.link.LinkEntry.{LinkEntry}
 use Rattle.mj_base.specs.declared.link.LinkEntry.TheVariants as entry
@@ -11,9 +11,8 @@ use Rattle.mj_copy.specs.declared.follow_act.FollowAct.{FollowAct}
 use Rattle.mj_copy.specs.declared.follow_act.FollowAct.TheVariants as act
 use Rattle.mj_copy_file.specs.Logs.{IsNext}
 use Rattle.mj_copying.specs.Passing.{entry_of, wrote}
-use Rattle.mj_disk.specs.Content.{Content, IsImage}
-use Rattle.mj_disk.specs.DiskModel.{History, IsSettled, LeavesOnly, Now}
-use Rattle.mj_journal.specs.FileText.{Opens, OpensAs, StandsFor}
+use Rattle.mj_disk.specs.DiskModel.{History}
+use Rattle.mj_journal.specs.FileText.{Opens}
 use Rattle.mj_journal.specs.HandedOut.{IsBaseOf}
 
 -- what an act does to the link

@@ -1,5 +1,5 @@
 -- What a run of follow knows between its turns.
-use Rattle.std.specs.Prelude.{ℕ, ◌≡◌, ◌≢◌, ◌≤◌, ◌^◌, ◌⊎◌, Bool, true, false, List, [], ◌∷◌, ◌++◌, length, Option, None, Some, is_some, ⊤}
+use Rattle.std.specs.Prelude.{ℕ, ◌≡◌, ◌≢◌, ◌≤◌, ◌^◌, ◌⊎◌, Bool, true, false, List, [], ◌∷◌, ◌++◌, length, Option, is_some, ⊤}
 use Rattle.mj_base.specs.Rising.{Rose}
 use Rattle.mj_base.specs.declared.link.LinkEntry.{LinkEntry}
 use Rattle.mj_copy.specs.FollowRules.{FollowTurn, Following, follow_appended, follow_steps}
@@ -7,7 +7,6 @@ use Rattle.mj_copy.specs.FollowStands.{following_of}
 use Rattle.mj_copy.specs.declared.awaits.Awaits.TheVariants as waits
 use Rattle.mj_copy.specs.declared.follow.Follow.{Follow}
 use Rattle.mj_copy.specs.declared.phase.Phase.TheVariants.{Finished, GivenUp}
-use Rattle.mj_copy_file.specs.Logs.{IsSettledAs}
 use Rattle.mj_copy_file.specs.declared.log.Log.{Log}
 use Rattle.mj_copying.specs.FollowFile.{CrashesBetween, FileIs}
 use Rattle.mj_base.specs.declared.link.LinkEvent.{LinkEvent}
@@ -25,7 +24,6 @@ use Rattle.mj_disk.specs.Content.{Content, IsImage}
 use Rattle.mj_disk.specs.DiskModel.{History, Now}
 use Rattle.mj_disk.specs.declared.disk.Disk.{Ghosts}
 use Rattle.mj_journal.specs.FileText.{OpensAs, StandsFor}
-use Rattle.mj_journal.specs.declared.fault.OpenFault.{OpenFault}
 use Rattle.mj_journal.specs.declared.fault.OpenFault.TheVariants as opening
 use Rattle.mj_store.specs.Opening.{IsUnopened}
 use Rattle.mj_base.specs.Linking.{Tells}

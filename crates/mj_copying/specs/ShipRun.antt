@@ -1,13 +1,11 @@
 -- A run of ship over a link: steps at what the link gives, one after the other, each act done.
-use Rattle.std.specs.Prelude.{ℕ, ◌≡◌, ◌<◌, ◌⊎◌, ⊤, List, [], ◌∷◌, ◌++◌, length, slice_index_or, Option}
+use Rattle.std.specs.Prelude.{ℕ, ◌≡◌, ◌<◌, ◌⊎◌, ⊤, List, [], ◌∷◌, ◌++◌, slice_index_or, Option}
 use Rattle.mj_base.specs.Linking.{Tells}
 use Rattle.mj_base.specs.declared.link.LinkEntry.{LinkEntry}
 use Rattle.mj_base.specs.declared.link.LinkEntry.TheVariants as entry
 use Rattle.mj_base.specs.declared.link.LinkEvent.{LinkEvent}
 use Rattle.mj_copy.specs.Messages.{Send, octets_of}
-use Rattle.mj_copy.specs.ShipRules.{ShipTurn, Shipping, ship_runs, ship_steps}
-use Rattle.mj_copy.specs.ShipStands.{shipping_of}
-use Rattle.mj_copy.specs.declared.ship.Ship.{Ship}
+use Rattle.mj_copy.specs.ShipRules.{Shipping, ship_runs, ship_steps}
 use Rattle.mj_copy.specs.declared.ship_act.ShipAct.{ShipAct}
 use Rattle.mj_copy.specs.declared.ship_act.ShipAct.TheVariants as act
 use Rattle.mj_copying.specs.Passing.{entry_of, wrote}

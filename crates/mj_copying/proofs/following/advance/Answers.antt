@@ -1,4 +1,4 @@
-use Rattle.std.proofs.Common.{◌≡◌, List, ℕ, [], ◌∷◌, refl, sym, ap, subst, ◌∙◌}
+use Rattle.std.proofs.Common.{List, ℕ, [], ◌∷◌, refl, sym, ap, subst, ◌∙◌}
 use Rattle.mj_copy.specs.declared.awaits.Awaits.TheVariants as waits
 use Rattle.mj_copying.specs.FollowState.{Stopped}
 use Rattle.mj_copying.specs.Passing.{entry_of}

@@ -1,4 +1,3 @@
-use Rattle.std.proofs.Common.{◌≡◌, refl}
 use Rattle.mj_copying.specs.FollowRun.{after}
 use Rattle.mj_copying.specs.Passing.{counts}
 use Rattle.mj_copying.proofs.FollowLemmas.{goes_more, goes_not, halt_wider, halts_at}

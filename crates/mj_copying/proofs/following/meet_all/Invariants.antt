@@ -1,4 +1,4 @@
-use Rattle.std.proofs.Common.{◌≡◌, ◌≤◌, ℕ, Option, false}
+use Rattle.std.proofs.Common.{◌≡◌, ℕ, Option, false}
 use Rattle.mj_copying.specs.FollowRun.{Copying}
 use Rattle.mj_copying.specs.FollowState.{Goes, IsRunning, Runs}
 use Rattle.mj_copying.specs.Passing.{AreLater, counts}

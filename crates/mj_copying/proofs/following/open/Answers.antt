@@ -1,4 +1,4 @@
-use Rattle.std.proofs.Common.{◌≡◌, ℕ, refl, sym, subst, ◌∙◌}
+use Rattle.std.proofs.Common.{ℕ, refl, sym, subst, ◌∙◌}
 use Rattle.mj_copy.specs.FollowRules.{follow_opened}
 use Rattle.mj_copy.specs.FollowStands.{IsTurn, following_of}
 use Rattle.mj_copying.proofs.following.open.Goals as goal

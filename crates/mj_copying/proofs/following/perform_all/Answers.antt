@@ -1,4 +1,4 @@
-use Rattle.std.proofs.Common.{◌≡◌, ◌+◌, ◌<◌, ◌≤◌, ℕ, List, subst, sym, take, drop, length, get_or, arith}
+use Rattle.std.proofs.Common.{List, subst, sym, take, drop, arith}
 use Rattle.mj_copy.specs.declared.follow_act.FollowAct.{FollowAct}
 use Rattle.mj_copying.specs.FollowState.{Performs}
 use Rattle.mj_copying.proofs.FollowLemmas.{acts_at, performs_breaks, performs_more, taken_more}

@@ -1,4 +1,4 @@
-use Rattle.std.proofs.Common.{◌≡◌, refl, subst}
+use Rattle.std.proofs.Common.{subst}
 use Rattle.mj_copy.specs.FollowRules.{Following}
 use Rattle.mj_copying.specs.FollowRun.{new_copying}
 use Rattle.mj_copying.specs.FollowState.{Ended}

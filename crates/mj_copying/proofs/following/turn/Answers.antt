@@ -1,4 +1,3 @@
-use Rattle.std.proofs.Common.{◌≡◌, refl}
 use Rattle.mj_copying.proofs.FollowLemmas.{cut_in, stopped_in, turned}
 use Rattle.mj_copying.proofs.following.turn.Goals as goal
 

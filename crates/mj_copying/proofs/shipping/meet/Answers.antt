@@ -1,4 +1,4 @@
-use Rattle.std.proofs.Common.{◌≡◌, ℕ, List, length, subst, sym, ◌∙◌, ap, refl}
+use Rattle.std.proofs.Common.{List, length, subst, sym, ◌∙◌, ap, refl}
 use Rattle.std.specs.List.{AllByRecursion}
 use Rattle.mj_copy.specs.ShipRules.{Shipping}
 use Rattle.mj_copy.specs.ShipStands.{shipping_of}

@@ -1,10 +1,10 @@
-use Rattle.std.proofs.Common.{◌≡◌, ◌≤◌, ℕ, List, Option, subst, sym, ◌∙◌, arith}
+use Rattle.std.proofs.Common.{Option, subst, sym, ◌∙◌, arith}
 use Rattle.std.proofs.lemmas.Result.{err_from_is_err_and}
 use Rattle.mj_copy.specs.ShipStands.{shipping_of}
 use Rattle.mj_copying.specs.Held.{StandsAt}
 use Rattle.mj_disk.specs.DiskModel.{History}
 use Rattle.mj_copying.proofs.LinkLemmas.{later_more}
-use Rattle.mj_copying.proofs.ShipLemmas.{broke_off, ran_more, ran_not}
+use Rattle.mj_copying.proofs.ShipLemmas.{broke_off, ran_more}
 use Rattle.mj_copying.proofs.shipping.meet_all.Goals as goal
 
 pub loop-preserved : goal.loop-preserved

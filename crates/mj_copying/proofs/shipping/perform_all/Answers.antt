@@ -1,4 +1,4 @@
-use Rattle.std.proofs.Common.{◌≡◌, ◌+◌, ◌<◌, ◌≤◌, ℕ, List, Option, subst, sym, ◌∙◌, take, drop, length, get_or, arith}
+use Rattle.std.proofs.Common.{List, Option, subst, sym, ◌∙◌, take, drop, length, arith}
 use Rattle.std.proofs.lemmas.List.{take-append-drop}
 use Rattle.std.proofs.lemmas.Result.{err_from_is_err_and}
 use Rattle.mj_copy.specs.declared.ship_act.ShipAct.{ShipAct}

@@ -1,4 +1,4 @@
-use Rattle.std.proofs.Common.{◌≡◌, ℕ, List, [], get_or, ap, ◌∙◌, sym}
+use Rattle.std.proofs.Common.{ℕ, List, ap, ◌∙◌}
 use Rattle.mj_copy.specs.Messages.{Send, octets_of}
 use Rattle.mj_copying.specs.Passing.{wrote}
 use Rattle.mj_copying.specs.ShipRun.{sent}

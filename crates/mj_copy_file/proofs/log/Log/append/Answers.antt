@@ -1,4 +1,4 @@
-use Rattle.std.proofs.Common.{◌≡◌, ◌+◌, ℕ, List, [], ◌∷◌, ◌++◌, Option, refl, sym, ap, subst, ◌∙◌}
+use Rattle.std.proofs.Common.{◌+◌, ℕ, Option, refl, ap, subst}
 use Rattle.std.specs.Prelude.{IfNone, IfSome}
 use Rattle.mj_tickets.specs.Payload.{IsCommand}
 use Rattle.mj_tickets.specs.declared.command.TicketCmd.{TicketCmd}

@@ -1,6 +1,5 @@
-use Rattle.std.proofs.Common.{◌≡◌, ℕ, refl, sym, ap, subst, ◌∙◌}
+use Rattle.std.proofs.Common.{◌≡◌, ℕ, sym, subst}
 use Rattle.mj_tickets.specs.Fold.{start}
-use Rattle.mj_store.proofs.Beginning.{crash_on}
 use Rattle.mj_store.proofs.Found.{begin_unopened, read_unopened}
 use Rattle.mj_journal.specs.Opening.{Begins}
 use Rattle.mj_store.specs.Commands.{IsBase}

@@ -1,4 +1,4 @@
-use Rattle.std.proofs.Common.{◌≡◌, ◌<◌, ℕ, List, take, drop, get_or, length, sym, ap, subst, refl, ◌∙◌, arith}
+use Rattle.std.proofs.Common.{◌≡◌, ◌<◌, ℕ, List, take, drop, get_or, length, sym, ap, refl, ◌∙◌, arith}
 use Rattle.std.proofs.lemmas.List.{with_items_is}
 use Rattle.mj_copy_file.specs.declared.spot.Spot.{Spot}
 use Rattle.mj_copy_file.proofs.LogSpots.{counted, stands_at}
