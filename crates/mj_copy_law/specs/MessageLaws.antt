@@ -1,7 +1,6 @@
 -- What holds of messages and their reading, whatever is sent.
 use Rattle.std.specs.Prelude.{ℕ, ◌≡◌, ◌⊎◌, List, ◌++◌}
 use Rattle.mj_copy.specs.Messages.{Fits, Message, Short, Whole, octets_of, reading}
-use Rattle.mj_frame.specs.FrameSpelling.{IsBytes}
 
 -- of the bytes of a message and what follows, a front reads as this message or as the start of one
 abbrev pub FrontsAreRead : Type 0
@@ -12,7 +11,3 @@ FrontsAreRead =
 -- each message that can be written is read, whatever follows
 abbrev pub WrittenIsRead : Type 0
 WrittenIsRead = (m : Message) (rest : List ℕ) → Fits m → reading (octets_of m ++ rest) ≡ Whole m rest
-
--- what is read as a message is what is written of it, and can be written
-abbrev pub ReadIsWritten : Type 0
-ReadIsWritten = (octets : List ℕ) (m : Message) (rest : List ℕ) → IsBytes octets → reading octets ≡ Whole m rest → Fits m × (octets ≡ octets_of m ++ rest)

@@ -1,30 +1,24 @@
 -- From what a run of follow came to, and from what was printed, to the row of the status.
-use Rattle.std.proofs.Common.{◌≡◌, ◌≢◌, ℕ, ◌+◌, ◌≤◌, ◌⊎◌, true, false, List, [], ◌∷◌, ◌++◌, length, Option, Some, None, refl, sym, ap, subst, ◌∙◌, inl, inr, ⊎_elim, arith}
-use Rattle.std.specs.Io.KnownBytes.{Appends, Keeps}
+use Rattle.std.proofs.Common.{◌≡◌, ℕ, [], Option, Some, None, refl, sym, subst, inl, inr}
 use Rattle.mj_base.specs.Rising.{Rose}
-use Rattle.mj_base.specs.declared.link.LinkEntry.{LinkEntry}
 use Rattle.mj_copy.specs.declared.follow.Follow.{Follow}
-use Rattle.mj_copy_file.specs.Logs.{Holds, IsSettledAs}
+use Rattle.mj_copy_file.specs.Logs.{IsSettledAs}
 use Rattle.mj_copy_file.specs.declared.log.Log.{Log}
 use Rattle.mj_copying.specs.FollowFile.{CrashesBetween, FileIs}
 use Rattle.mj_copying.specs.FollowRun.{BrokeOff, Copying, new_copying}
 use Rattle.mj_copying.specs.FollowRun as run
 use Rattle.mj_copying.specs.FollowState.{Ended, Goes, HaltCause, Halts, HasEither, IsWhy}
-use Rattle.mj_copying.specs.Passing.{Cause, Counts}
+use Rattle.mj_copying.specs.Passing.{Counts}
 use Rattle.mj_copying.specs.declared.following.FollowEnding.{FollowEnding}
 use Rattle.mj_copying.specs.declared.following.FollowEnding.TheVariants as endings
 use Rattle.mj_copying.specs.declared.following.FollowStop.{FollowStop}
 use Rattle.mj_copying.specs.declared.following.FollowStop.TheVariants as halts
-use Rattle.mj_copying.specs.declared.stop.Stop.{Stop}
 use Rattle.mj_copying.specs.declared.stop.Stop.TheVariants as stops
-use Rattle.mj_disk.specs.Content.{Content}
 use Rattle.mj_disk.specs.DiskModel.{History, Now}
 use Rattle.mj_disk.specs.declared.disk.Disk.{Ghosts}
-use Rattle.mj_journal.specs.declared.fault.OpenFault.{OpenFault}
 use Rattle.mj_journal.specs.declared.fault.OpenFault.TheVariants as opening
-use Rattle.mj_copy_prog.specs.Endings.{Breaks, GivesUp, PrintsDone, Refuses, Unopened}
-use Rattle.mj_copy_prog.specs.FollowTable.{Followed, Halted, HaltedBy, HasFile, IsRefused, IsRow, PrintsEnding, PrintsStop, refusal_in}
-use Rattle.mj_copy_prog.specs.Refusing.{refusal_of}
+use Rattle.mj_copy_prog.specs.Endings.{PrintsDone, Refuses}
+use Rattle.mj_copy_prog.specs.FollowTable.{Followed, Halted, HasFile, IsRow, PrintsEnding, PrintsStop, refusal_in}
 use Rattle.mj_copy_prog.specs.ShipTable.{Scene}
 use Rattle.mj_copy_prog.specs.declared.refusal.Refusal.{Refusal}
 use Rattle.mj_copy_prog.specs.declared.refusal.Refusal.TheVariants as refusals

@@ -1,10 +1,9 @@
 -- From what a run came to, and from what was printed, to the row of the status.
-use Rattle.std.proofs.Common.{◌≡◌, ◌≢◌, ℕ, ◌+◌, ◌≤◌, ◌⊎◌, List, [], ◌∷◌, ◌++◌, length, Option, Some, None, refl, sym, ap, subst, ◌∙◌, inl, inr, ⊎_elim, arith}
-use Rattle.std.specs.Io.KnownBytes.{Appends, Keeps}
+use Rattle.std.proofs.Common.{◌≡◌, ◌≢◌, ℕ, ◌≤◌, List, length, Option, Some, refl, sym, subst, ◌∙◌, inl, inr, arith}
 use Rattle.mj_base.specs.Rising.{Rose}
 use Rattle.mj_base.specs.declared.link.LinkEntry.{LinkEntry}
 use Rattle.mj_copy.specs.ShipRules.{new_ship}
-use Rattle.mj_copy_file.specs.Logs.{AreLawful, Holds, IsHeld, IsSettledAs, Knows}
+use Rattle.mj_copy_file.specs.Logs.{AreLawful, IsHeld, Knows}
 use Rattle.mj_copy_file.specs.declared.log.Log.{Log}
 use Rattle.mj_copying.specs.Held.{StandsAt}
 use Rattle.mj_copying.specs.Passing.{Cause, Counts}
@@ -16,13 +15,12 @@ use Rattle.mj_copying.specs.declared.stop.Stop.{Stop}
 use Rattle.mj_copying.specs.declared.stop.Stop.TheVariants as stops
 use Rattle.mj_disk.specs.DiskModel.{History, Now}
 use Rattle.mj_disk.specs.declared.disk.Disk.{Ghosts}
-use Rattle.mj_journal.specs.FileText.{StandsFor}
 use Rattle.mj_journal.specs.declared.fault.OpenFault.{OpenFault}
 use Rattle.mj_journal.specs.declared.fault.OpenFault.TheVariants as opening
 use Rattle.mj_store.specs.Opening.{IsUnopened}
 use Rattle.mj_copy_prog.specs.Endings.{Breaks, GivesUp, PrintsDone, Refuses, Unopened}
 use Rattle.mj_copy_prog.specs.Refusing.{refusal_of}
-use Rattle.mj_copy_prog.specs.ShipTable.{BreaksOff, IsRefused, IsRow, PrintsEnding, Scene, Shipped, ShipsFile, Unfinished}
+use Rattle.mj_copy_prog.specs.ShipTable.{BreaksOff, IsRow, PrintsEnding, Scene, Shipped, ShipsFile}
 use Rattle.mj_copy_prog.specs.declared.refusal.Refusal.{Refusal}
 use Rattle.mj_copy_prog.specs.declared.refusal.Refusal.TheVariants as refusals
 use Rattle.mj_copy_prog.specs.declared.status.Status.{Status}

@@ -1,5 +1,5 @@
 -- No two statuses have the same number.
-use Rattle.std.proofs.Common.{◌≡◌, ℕ, ◌∙◌, refl, sym, ap, Bool, cond, eqb}
+use Rattle.std.proofs.Common.{◌≡◌, ℕ, ◌∙◌, refl, sym, ap, cond, eqb}
 use Rattle.mj_copy_prog.specs.Statuses.{code_of}
 use Rattle.mj_copy_prog.specs.declared.status.Status.{Status}
 use Rattle.mj_copy_prog.specs.declared.status.Status.TheVariants as statuses

@@ -3,7 +3,6 @@ use Rattle.std.specs.Prelude.{ℕ, ◌≡◌, ◌⊎◌, true, false, List, [], 
 use Rattle.std.specs.Io.KnownBytes.{Appends, Keeps}
 use Rattle.mj_base.specs.Rising.{Rose}
 use Rattle.mj_base.specs.Writing.{AppendsFront}
-use Rattle.mj_base.specs.declared.link.LinkEntry.{LinkEntry}
 use Rattle.mj_copying.specs.FollowFile.{CrashesBetween}
 use Rattle.mj_copying.specs.FollowRun.{BrokeOff, Copying, new_copying}
 use Rattle.mj_copying.specs.FollowRun as run

@@ -1,4 +1,4 @@
-use Rattle.std.proofs.Common.{ℕ, ap, subst, sym, ◌∙◌}
+use Rattle.std.proofs.Common.{ap, subst, ◌∙◌}
 use Rattle.mj_words.specs.SinkCounts.{counted}
 use Rattle.mj_copy_prog.specs.FollowTable.{IsRow}
 use Rattle.mj_copy_prog.specs.ShipTable.{scene}

@@ -1,4 +1,4 @@
-use Rattle.std.proofs.Common.{◌≡◌, ℕ, [], refl, subst, sym, arith}
+use Rattle.std.proofs.Common.{◌≡◌, ℕ, [], refl, subst, arith}
 use Rattle.std.proofs.KnownBytes.{Appends-nil}
 use Rattle.mj_words.specs.SinkCounts.{counted}
 use Rattle.mj_copy_prog.specs.FollowTable.{IsRow}

@@ -1,4 +1,4 @@
-use Rattle.std.proofs.Common.{◌≡◌, ℕ, [], inl, refl, subst, sym, arith}
+use Rattle.std.proofs.Common.{◌≡◌, ℕ, [], inl, refl, subst, arith}
 use Rattle.std.proofs.KnownBytes.{Appends-nil}
 use Rattle.mj_disk.proofs.Moments.{started}
 use Rattle.mj_journal.specs.Opening.{IsImageOrOpensAlike}

@@ -1,4 +1,4 @@
-use Rattle.std.proofs.Common.{ℕ, ap, subst, sym, ◌∙◌}
+use Rattle.std.proofs.Common.{ap, subst, ◌∙◌}
 use Rattle.mj_words.specs.SinkCounts.{counted}
 use Rattle.mj_copy_prog.specs.ShipTable.{IsRow, scene}
 use Rattle.mj_copy_prog.specs.Statuses.{code_of}
