@@ -1,0 +1,6 @@
+//! What a verdict says of a whole transcript.
+#![tactic(auto)]
+
+mod laws;
+
+pub use laws::held_is_kept;
