@@ -1,8 +1,11 @@
 //! The call over ports that give the events of a question, and keep what they are given.
+ghost use Rattle.std.specs.Prelude.{◌≡◌, ◌≤◌, false, IfOk};
+
 use super::words::words_of;
 use mj_base::{Event, MemorySink, Octets, Out};
 use mj_disk::MemoryDisk;
 use mj_host::broker;
+use mj_serve::Ports;
 use mj_serve_tests::Recorder;
 use std::alloc::Global;
 use std::test::Fail;
@@ -86,7 +89,10 @@ fn events(alloc: Global) -> Result<Vec<Event>, Fail> {
     Ok(events)
 }
 
-fn ports_of(alloc: Global) -> Result<Recorder, Fail> {
+fn ports_of(alloc: Global) -> Result<Recorder, Fail>
+    ensures lanes { IfOk result (λ ports. ⟦<Recorder as Ports>⟧.lanes_in ports ≤ 64) }
+    ensures going { IfOk result (λ ports. ⟦<Recorder as Ports>⟧.stopped ports ≡ false) }
+{
     match Recorder::new(alloc, 2, events(alloc)?) {
         Some(ports) => Ok(ports),
         None => Err("too many events".into()),
