@@ -59,7 +59,7 @@ impl Broker {
         ensures wires { IfOk result (λ broker. broker.wires ≡ []) }
         ensures fresh { IfOk result (λ broker. broker.spent ≡ false) }
     {
-        let mut routing = Routing::new(alloc, limits)?;
+        let mut routing = Routing::new(alloc, limits);
         let shelf = match store {
             None => Shelf::Absent,
             Some(store) => {

@@ -1,18 +1,15 @@
 -- Each pair that is dispatched leaves fewer workers and requests.
-use Rattle.std.proofs.Common.{◌≡◌, ◌+◌, ◌<◌, ◌≤◌, ◌==◌, ℕ, Bool, true, false, not, cond, List, [], ◌∷◌, ◌++◌, length, Option, None, Some, refl, sym, ap, subst, ◌∙◌, arith, length-append}
+use Rattle.std.proofs.Common.{◌≡◌, ◌+◌, ◌<◌, ◌≤◌, ◌==◌, ℕ, Bool, true, false, not, cond, List, [], ◌∷◌, length, Option, None, Some, refl, sym, ap, subst, arith, length-append}
 use Rattle.std.specs.List.{filter}
-use Rattle.mj_base.specs.declared.event.Out.{Out}
-use Rattle.mj_queue.specs.declared.request.Origin.{Origin}
 use Rattle.mj_queue.specs.declared.request.Origin.TheVariants as origins
 use Rattle.mj_queue.specs.declared.request.Request.{Request}
-use Rattle.mj_queue.specs.declared.worker.Waiter.{Waiter}
 use Rattle.mj_queue.specs.Settling.{Pair, has_waiter, is_client, is_of_client, pair, without_client, without_worker}
 use Rattle.mj_machine.specs.declared.connection.Connection.{Connection}
 use Rattle.mj_machine.specs.StoreState.{Told}
 use Rattle.mj_machine.specs.MachineState.{State}
 use Rattle.mj_machine.specs.Connections.{connection_of, voice_of}
 use Rattle.mj_machine.specs.DiskActs.{clients_alone}
-use Rattle.mj_machine.specs.Leaving.{given_back, held_by}
+use Rattle.mj_machine.specs.Leaving.{held_by}
 use Rattle.mj_machine.specs.Pairing.{handed, hands, request_text, waits, with_body}
 use Rattle.mj_machine.specs.Sending.{is_slow, sends_if, sends_to}
 use Rattle.mj_machine.proofs.SettlingLemmas.{drops-one, fewer, first-shorter, pair-fewer, pair-is, worker-fewer}

@@ -12,7 +12,7 @@ use Rattle.mj_base.specs.declared.limits.Limits.{Limits}
 use Rattle.mj_queue.specs.HallState.{HallState}
 use Rattle.mj_queue.specs.HallSteps.{taken, waits}
 use Rattle.mj_queue.specs.PairLaw.{IsPair}
-use Rattle.mj_queue.specs.Settling.{Pair, has_waiter, is_of_client, pair, without_client, without_worker}
+use Rattle.mj_queue.specs.Settling.{Pair, has_waiter, pair, without_client, without_worker}
 use Rattle.mj_queue.specs.declared.request.Request.{Request}
 use Rattle.mj_queue.proofs.LawLemmas.{pair-is-first}
 use Rattle.mj_queue.specs.declared.worker.Waiter.{Waiter}

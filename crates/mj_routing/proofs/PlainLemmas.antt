@@ -1,11 +1,11 @@
 -- Acts on what is routed say nothing of the disk, and leave the limits, the next number and who isn't there.
-use Rattle.std.proofs.Common.{◌≡◌, ◌==◌, ℕ, Bool, true, false, not, cond, ◌||◌, ◌&&◌, List, [], ◌∷◌, ◌++◌, map, Option, None, Some, MatchOption, refl, sym, ap, subst, ◌∙◌, length}
-use Rattle.std.specs.List.{filter, list_any}
+use Rattle.std.proofs.Common.{◌≡◌, ℕ, Bool, true, false, not, cond, ◌||◌, ◌&&◌, List, [], ◌∷◌, ◌++◌, Option, None, Some, MatchOption, refl, sym, subst, ◌∙◌, length}
+use Rattle.std.specs.List.{list_any}
 use Rattle.mj_base.specs.ServiceName.{is_reserved}
 use Rattle.mj_base.specs.declared.event.Out.{Out}
 use Rattle.mj_base.specs.declared.event.Out.TheVariants as outs
 use Rattle.mj_base.specs.declared.reason.Reason.{Reason}
-use Rattle.mj_base.specs.declared.reason.Reason.TheVariants.{QueueFull, Slow}
+use Rattle.mj_base.specs.declared.reason.Reason.TheVariants.{QueueFull}
 use Rattle.mj_queue.specs.PairLaw.{IsPair}
 use Rattle.mj_queue.specs.Settling.{Pair, has_waiter, is_of_client, is_client, is_too_much, pair, queued, without_client}
 use Rattle.mj_queue.specs.declared.request.Request.{Request}
@@ -20,14 +20,14 @@ use Rattle.mj_machine.specs.declared.connection.Voice.{Voice}
 use Rattle.mj_machine.specs.StoreState.{Told}
 use Rattle.mj_machine.specs.MachineState.{Done, State}
 use Rattle.mj_machine.specs.Connections.{connection_of, is_asking, number_on, voice_of, with_role}
-use Rattle.mj_machine.specs.Acts.{each, quiet, ◌then◌}
+use Rattle.mj_machine.specs.Acts.{each, quiet}
 use Rattle.mj_machine.specs.DiskActs.{notes_in}
 use Rattle.mj_machine.specs.EventStep.{closes, closes_on, delivered, ends_at, ends_by, reports, reports_on}
-use Rattle.mj_machine.specs.Leaving.{becomes, ends, given_back, goes, held_by, left, removed}
+use Rattle.mj_machine.specs.Leaving.{becomes, ends, goes, held_by, left, removed}
 use Rattle.mj_machine.specs.MessageStep.{answers_itself, begins, delivers_back, departs, enqueues, is_two, queues, registers, registration, rests, strays, unexpected}
 use Rattle.mj_machine.specs.Pairing.{handed, hands, mark_set, marks, passes, request_text, waits, with_body}
 use Rattle.mj_machine.specs.Sending.{is_slow, order_text, sends, sends_if, sends_to, sent}
-use Rattle.mj_machine.specs.TickStep.{all_beat, all_expire, at_moment, beats, due_numbers, expires, leases_end, silent_numbers, ticks}
+use Rattle.mj_machine.specs.TickStep.{all_expire, at_moment, beats, due_numbers, expires, leases_end, silent_numbers, ticks}
 use Rattle.mj_machine.proofs.AbsentLemmas.{absent-changed, absent-cut}
 use Rattle.mj_machine.proofs.ListLemmas.{all-append, all-filter, all-front, all-rest}
 use Rattle.mj_machine.proofs.SettlingLemmas.{nothing_back}

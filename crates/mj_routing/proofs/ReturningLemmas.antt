@@ -1,5 +1,5 @@
 -- What comes back from a worker, and what it held taken out.
-use Rattle.std.proofs.Common.{◌≡◌, ◌==◌, ℕ, Bool, true, false, not, cond, List, [], ◌∷◌, ◌++◌, Option, None, Some, MatchOption, refl, sym, ap, subst, ◌∙◌, get_or}
+use Rattle.std.proofs.Common.{◌≡◌, ◌==◌, ℕ, Bool, true, false, not, cond, List, [], ◌∷◌, ◌++◌, Option, None, Some, MatchOption, refl, ap, subst, get_or}
 use Rattle.std.specs.Option.{option_map}
 use Rattle.std.specs.List.{filter, find, position, remove}
 use Rattle.mj_queue.specs.Settling.{put_back, take_first}

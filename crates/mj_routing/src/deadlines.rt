@@ -8,8 +8,8 @@ ghost use Rattle.mj_routing.specs.Deadlines.{LeasesStand, SameBut, deadline_on};
 
 use crate::connections::mark_of;
 use crate::held::is_holding;
+use crate::leases::Leases;
 use mj_base::Limits;
-use mj_lease::Leases;
 use mj_machine::{Connection, Held};
 
 /// Sets the deadline of this number anew, after it alone has changed.

@@ -4,7 +4,9 @@
 
 mod connections;
 mod deadlines;
+mod hall;
 mod held;
+mod leases;
 mod routing;
 mod said;
 mod services;

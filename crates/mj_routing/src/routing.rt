@@ -24,14 +24,15 @@ ghost use Rattle.mj_machine.specs.declared.connection.Role;
 ghost use Rattle.mj_worker_cmd.specs.declared.command.OrderAct.TheVariants as order;
 
 use crate::connections::{self, Standing, Verdict};
+use crate::hall::Hall;
+use crate::leases::Leases;
 use crate::services::is_titanic;
 use crate::text::{address_of, order_octets, ticket_request};
 use crate::{deadlines, held};
 use mj_base::{Frames, Limits, Name, NoMemory, Octets, Out, Reason};
 use mj_keeper::Keeper;
-use mj_lease::Leases;
 use mj_machine::{Connection, Held, Lengths, Registration, Role, Voice};
-use mj_queue::{AskFault, Hall, Offer, Origin, Request};
+use mj_queue::{AskFault, Offer, Origin, Request};
 use mj_store::Store;
 use mj_worker_cmd::OrderAct;
 use std::alloc::Global;
@@ -64,18 +65,18 @@ impl Model for Routing {
 
 impl Routing {
     /// Nobody is connected.
-    pub fn new(alloc: Global, limits: &Limits) -> Result<Routing, NoMemory>
-        ensures { IfOk result (λ core. core ≡ start_state limits.now) }
+    pub fn new(alloc: Global, limits: &Limits) -> Routing
+        ensures { result ≡ start_state limits.now }
     {
-        Ok(Routing {
+        Routing {
             limits: *limits,
             moment: 0,
             next: 1,
             connections: Vec::new(alloc),
-            hall: Hall::new(alloc, limits)?,
+            hall: Hall::new(alloc, limits),
             held: Vec::new(alloc),
             leases: Leases::new(alloc),
-        })
+        }
     }
 
     /// Adds a fresh connection on this lane.

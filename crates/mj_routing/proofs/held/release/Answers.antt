@@ -1,6 +1,5 @@
-use Rattle.std.proofs.Common.{◌≡◌, ap, sym, ◌∙◌, ◌==◌, List, ℕ, Option, Some}
-use Rattle.std.specs.List.{position, remove}
-use Rattle.mj_queue.specs.declared.request.Request.{Request}
+use Rattle.std.proofs.Common.{ap, sym, ◌∙◌, ◌==◌, List}
+use Rattle.std.specs.List.{position}
 use Rattle.mj_machine.specs.declared.held.Held.{Held}
 use Rattle.mj_machine.specs.Leaving.{held_without}
 use Rattle.mj_keeper.specs.Standing.{told_on}

@@ -1,4 +1,4 @@
-use Rattle.std.proofs.Common.{◌≡◌, ap, sym, ◌∙◌, arith, Option, ◌+◌, None}
+use Rattle.std.proofs.Common.{ap, sym, ◌∙◌, arith}
 use Rattle.mj_routing.proofs.WaitingLemmas.{all-queued, none-pending, none-queued, one-queued, rest_above}
 use Rattle.mj_routing.proofs.routing.Routing.queue_tickets.Goals as goal
 
