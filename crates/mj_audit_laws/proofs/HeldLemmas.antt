@@ -1,16 +1,14 @@
 -- A transcript that is held, line by line.
-use Rattle.std.proofs.Common.{◌≡◌, ◌+◌, ℕ, zero, suc, Bool, true, false, cond, not, List, [], ◌∷◌, ◌++◌, length, Option, Some, None, refl, sym, ap, subst, ◌∙◌, append-nil, append_assoc, arith}
-use mathlib.Core.Bool.{◌&&◌}
+use Rattle.std.proofs.Common.{◌≡◌, ◌+◌, ℕ, suc, Bool, true, false, cond, not, List, [], ◌∷◌, ◌++◌, length, Some, None, refl, sym, ap, subst, ◌∙◌, append-nil, append_assoc, arith}
 use Rattle.std.specs.Prelude.{replicate}
 use Rattle.std.proofs.lemmas.Bool.{and_from}
 use Rattle.mj_ledger.specs.TranscriptLaws.{keeps_busy, keeps_owner, keeps_wire, nobody_is_kept}
 use Rattle.mj_ledger.proofs.Lists.{all-moments-push}
 use Rattle.mj_transcript.specs.Lines.{is_lawful}
 use Rattle.mj_transcript.specs.Said.{said}
-use Rattle.mj_transcript.specs.Verdicts.{are_lawful, broken, judged, judged_from, verdict_after, verdict_at, verdict_of}
+use Rattle.mj_transcript.specs.Verdicts.{are_lawful, broken, judged_from, verdict_after, verdict_at, verdict_of}
 use Rattle.mj_transcript.specs.Waiting.{keeps_waiting}
 use Rattle.mj_transcript.specs.declared.line.Line.{Line}
-use Rattle.mj_transcript.specs.declared.verdict.Law.{Law}
 use Rattle.mj_transcript.specs.declared.verdict.Law.TheVariants as laws
 use Rattle.mj_transcript.specs.declared.verdict.Verdict.{Verdict}
 use Rattle.mj_transcript.specs.declared.verdict.Verdict.TheVariants.{Held, Unlawful, Broken}

@@ -1,1 +1,2 @@
 pub mod HeldLaw
+pub mod AnswerLaw

@@ -3,4 +3,4 @@
 
 mod laws;
 
-pub use laws::held_is_kept;
+pub use laws::{held_answers_are_given, held_is_kept};
