@@ -2,3 +2,4 @@ mod WatchLemmas
 mod ClientSightLemmas
 mod WorkerSightLemmas
 mod TryLemmas
+mod WorkerTryLemmas

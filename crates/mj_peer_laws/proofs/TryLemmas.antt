@@ -35,7 +35,7 @@ not-equal a b apart = by (eqb_tells a b)
     by (inr e) = e.0
 
 -- not the last one of a try
-early : (T W a q n : ℕ) → n ≡ a * W + q → a < T → q + 1 < W → (n + 1 == T * W) ≡ false
+pub early : (T W a q n : ℕ) → n ≡ a * W + q → a < T → q + 1 < W → (n + 1 == T * W) ≡ false
 early T W a q n is few less =
     let up : a + 1 ≤ T = omega arith in
     let whole = mul-le (a + 1) W T W up (let e : W ≤ W = omega arith in e) in
@@ -43,7 +43,7 @@ early T W a q n is few less =
     not-equal (n + 1) (T * W) (let apart : n + 1 ≢ T * W = omega (arith, is, whole, step, less) in apart)
 
 -- the last one of a try that isn't the last
-between : (T W a q n : ℕ) → n ≡ a * W + q → a + 1 < T → q + 1 ≡ W → 1 ≤ W → (n + 1 == T * W) ≡ false
+pub between : (T W a q n : ℕ) → n ≡ a * W + q → a + 1 < T → q + 1 ≡ W → 1 ≤ W → (n + 1 == T * W) ≡ false
 between T W a q n is few last some =
     let up : (a + 1) + 1 ≤ T = omega arith in
     let whole = mul-le ((a + 1) + 1) W T W up (let e : W ≤ W = omega arith in e) in
@@ -51,10 +51,10 @@ between T W a q n is few last some =
     let further = next (a + 1) W in
     not-equal (n + 1) (T * W) (let apart : n + 1 ≢ T * W = omega (arith, is, whole, step, further, last, some) in apart)
 
-moved : (W a q n : ℕ) → n ≡ a * W + q → q + 1 ≡ W → n + 1 ≡ (a + 1) * W + 0
+pub moved : (W a q n : ℕ) → n ≡ a * W + q → q + 1 ≡ W → n + 1 ≡ (a + 1) * W + 0
 moved W a q n is last = let step = next a W in omega (arith, is, last, step)
 
-final : (T W a q n : ℕ) → n ≡ a * W + q → a + 1 ≡ T → q + 1 ≡ W → (n + 1 == T * W) ≡ true
+pub final : (T W a q n : ℕ) → n ≡ a * W + q → a + 1 ≡ T → q + 1 ≡ W → (n + 1 == T * W) ≡ true
 final T W a q n is all last =
     let step = next a W in
     let whole : T * W ≡ (a + 1) * W = ap (λ (k : ℕ). k * W) (sym all) in
@@ -62,10 +62,10 @@ final T W a q n is all last =
 
 -- ---- what an end has counted
 
-record Counts (T W a q n : ℕ) : Type 0 where
-  sum : n ≡ a * W + q
-  few : a < T
-  less : q < W
+pub record Counts (T W a q n : ℕ) : Type 0 where
+  pub sum : n ≡ a * W + q
+  pub few : a < T
+  pub less : q < W
 
 -- of the open request: so many quiet events, in tries that have ended and in the present one
 abbrev CountsAs : ℕ → ℕ → Option (List (List ℕ)) → ℕ → ℕ → ℕ → Type 0

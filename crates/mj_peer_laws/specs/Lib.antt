@@ -2,3 +2,4 @@ pub mod Watching
 pub mod ClientSights
 pub mod ClientTries
 pub mod WorkerSights
+pub mod WorkerTries

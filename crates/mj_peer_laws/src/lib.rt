@@ -7,4 +7,5 @@ mod laws;
 pub use laws::{
     a_client_asks_on_ready_links_and_hands_out_its_replies,
     a_client_gives_up_at_the_last_quiet_event, a_worker_answers_each_request_once,
+    a_worker_gives_up_at_the_last_quiet_event,
 };
