@@ -1,5 +1,5 @@
 -- The numbers that the program exits with.
-use Rattle.std.specs.Prelude.{ℕ, ◌≡◌}
+use Rattle.std.specs.Prelude.{ℕ, ◌≡◌, ◌⊎◌}
 use Rattle.mj_prog.specs.declared.status.Status.{Status}
 use Rattle.mj_prog.specs.declared.status.Status.TheVariants as statuses
 
@@ -13,6 +13,6 @@ code_of statuses.Disk = 5
 code_of statuses.Read = 6
 code_of statuses.Write = 7
 
--- one of these numbers
+-- one of these numbers, or 12, where a transcript breaks a law
 abbrev pub IsStatus : ℕ → Type 0
-IsStatus number = (status : Status) × (number ≡ code_of status)
+IsStatus number = ((status : Status) × (number ≡ code_of status)) ⊎ (number ≡ 12)

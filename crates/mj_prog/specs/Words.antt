@@ -63,11 +63,17 @@ command_in [] = None
 command_in (place ∷ []) = None
 command_in (place ∷ command ∷ more) = command_at place command more
 
--- what needs no broker: `help` alone, and `- show`
+abbrev pub dashed_tool : List ℕ → Option Tool
+dashed_tool word =
+    if bytes_eq word (codes "show") then Some tools.Show
+    else if bytes_eq word (codes "audit") then Some tools.Audit
+    else None
+
+-- what needs no broker: `help` alone, `- show` and `- audit`
 abbrev pub tool_in : List (List ℕ) → Option Tool
 tool_in [] = None
 tool_in (word ∷ []) = if bytes_eq word (codes "help") then Some tools.Help else None
-tool_in (place ∷ word ∷ []) = if bytes_eq place (codes "-") && bytes_eq word (codes "show") then Some tools.Show else None
+tool_in (place ∷ word ∷ []) = if bytes_eq place (codes "-") then dashed_tool word else None
 tool_in (place ∷ word ∷ other ∷ more) = None
 
 -- the words ask for nothing that there is

@@ -18,6 +18,7 @@ ghost use Rattle.mj_prog.specs.Words.{AskForNothing, asks_for_tickets, command_i
 ghost use Rattle.mj_prog.specs.declared.status.Status;
 ghost use Rattle.mj_prog.specs.declared.words.Tool;
 ghost use Rattle.mj_serve.specs.Serving.{IsLeftAlone};
+ghost use Rattle.mj_audit_prog.specs.Auditing.{Audits};
 ghost use Rattle.mj_show.specs.Helping.{Helps};
 ghost use Rattle.mj_show.specs.Showing.{Shows};
 ghost use Rattle.mj_store.specs.Opening.{NoneLawful};
@@ -29,6 +30,7 @@ use super::progress::Progress;
 use super::run::run_script;
 use super::status::{Status, code};
 use super::words::{Command, Options, Tool, read_tool, read_words};
+use mj_audit_prog::audit;
 use mj_base::{Sink, Source};
 use mj_disk::Disk;
 use mj_show::{help, show};
@@ -40,8 +42,8 @@ const SCRIPT_BYTES: u64 = 1 << 40;
 
 /// Does what the words say, which are those behind the program's name. `- replay`, with its options, reads a script from the
 /// source and prints what the broker does without a store; `FILE replay` does so with the tickets of the file that the disk is.
-/// `FILE tickets` prints the file's open tickets, `- show` what the stream of the source says, and `help` the names of the
-/// commands. The answer is the status that the program exits with.
+/// `FILE tickets` prints the file's open tickets, `- show` what the stream of the source says, `- audit` whether the transcript
+/// that it is keeps the laws, and `help` the names of the commands. The answer is the status that the program exits with.
 pub fn tool<S: Source, D: Disk, K: Sink>(
     alloc: Global,
     words: &[String],
@@ -81,13 +83,16 @@ pub fn tool<S: Source, D: Disk, K: Sink>(
     ensures lists_all { asks_for_tickets (map string_bytes words.now) ≡ true → ¬ Rose (K.faults out.old) (K.faults out.new) → ¬ Rose (D.faults disk.old) (D.faults disk.new) → Lists (D.told disk.old) (λ tickets. (result ≡ 0) ⊎ (result ≡ 4)) }
     ensures opened_alone { asks_for_tickets (map string_bytes words.now) ≡ true → (src.new ≡ src.old) × IsOpenedAlone D.Disk disk.old disk.new }
 
-    // What needs no broker: the names of the commands, and what a stream says.
+    // What needs no broker: the names of the commands, what a stream says, and whether a transcript keeps the laws.
     ensures helps { tool_in (map string_bytes words.now) ≡ Some Tool.Help → (src.new ≡ src.old) × (disk.new ≡ disk.old) × Helps (K.written out.old) (K.written out.new) (K.faults out.old) (K.faults out.new) result }
     ensures shows { tool_in (map string_bytes words.now) ≡ Some Tool.Show → (disk.new ≡ disk.old) × Shows (S.left src.old) (S.left src.new) (S.faults src.old) (S.faults src.new) (K.written out.old) (K.written out.new) (counted (K.faults out.old) (K.wants out.old)) (counted (K.faults out.new) (K.wants out.new)) result }
+    ensures audits { tool_in (map string_bytes words.now) ≡ Some Tool.Audit → (disk.new ≡ disk.old) × Audits (S.left src.old) (S.left src.new) (S.faults src.old) (S.faults src.new) (K.written out.old) (K.written out.new) (counted (K.faults out.old) (K.wants out.old)) (counted (K.faults out.new) (K.wants out.new)) result }
+    ensures broken { result ≡ 12 → tool_in (map string_bytes words.now) ≡ Some Tool.Audit }
 {
     match read_tool(words) {
         Some(Tool::Help) => help(out),
         Some(Tool::Show) => show(alloc, src, out),
+        Some(Tool::Audit) => audit(alloc, src, out),
         None => code(run_command(alloc, words, src, disk, out)),
     }
 }

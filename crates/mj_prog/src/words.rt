@@ -1,6 +1,6 @@
 ghost use Rattle.std.specs.Prelude.{◌≡◌, ◌≤◌, [], IfSome, map, string_bytes, codes, replicate};
 ghost use Rattle.mj_prog.specs.Words;
-ghost use Rattle.mj_prog.specs.Words.{command_at, command_in, options_for, options_of, replay_in, seed_of, tickets_in, tool_in};
+ghost use Rattle.mj_prog.specs.Words.{command_at, command_in, dashed_tool, options_for, options_of, replay_in, seed_of, tickets_in, tool_in};
 ghost use Rattle.mj_prog.specs.FoundValue.{IsFound, found_after};
 ghost use Rattle.mj_words.specs.Options.{number_between, once_or, values_of};
 
@@ -25,6 +25,8 @@ pub enum Tool {
     Help,
     /// What a stream says is shown.
     Show,
+    /// A transcript is checked.
+    Audit,
 }
 
 /// What the words ask for that is done with the broker or its store.
@@ -47,14 +49,27 @@ enum Found {
     Twice,
 }
 
-/// The tool that the words ask for: `help` alone, or `- show`.
+/// The tool that the words ask for: `help` alone, `- show` or `- audit`.
 pub fn read_tool(words: &[String]) -> Option<Tool>
     ensures { result ≡ tool_in (map string_bytes words.now) }
 {
     match words {
         [word] if word.as_str() == "help" => Some(Tool::Help),
-        [place, word] if place.as_str() == "-" && word.as_str() == "show" => Some(Tool::Show),
+        [place, word] if place.as_str() == "-" => read_dashed(word.as_str()),
         _ => None,
+    }
+}
+
+/// The tool that this word asks for behind `-`.
+fn read_dashed(word: &str) -> Option<Tool>
+    ensures { result ≡ dashed_tool word.now }
+{
+    if word == "show" {
+        Some(Tool::Show)
+    } else if word == "audit" {
+        Some(Tool::Audit)
+    } else {
+        None
     }
 }
 

@@ -6,7 +6,7 @@ use Rattle.mj_prog.specs.Statuses.{code_of}
 use Rattle.mj_prog.specs.Words.{command_in, options_in}
 use Rattle.mj_prog.specs.declared.status.Status.TheVariants as statuses
 use Rattle.mj_prog.proofs.StatusLaws.{answers, file-row, lists-all, lists-done, lists-front, row-of, status-is, store-row, unopened-code, write-cause, read-cause, disk-cause}
-use Rattle.mj_prog.proofs.ToolLaws.{helps-status, shows-status}
+use Rattle.mj_prog.proofs.ToolLaws.{audits-status, helps-status, shows-status}
 use Rattle.mj_prog.proofs.Untouched.{alone-untouched}
 use Rattle.mj_prog.proofs.top_call.tool.Goals as goal
 
@@ -20,7 +20,7 @@ pub returns-in-None-clause-refused_words : goal.returns-in-None-clause-refused_w
 returns-in-None-clause-refused_words g c = λ is. c.run_command.ensures.refused_words (status-is c.run_command.result statuses.Words c.code.result c.code.ensures is)
 
 pub returns-in-None-clause-statuses : goal.returns-in-None-clause-statuses
-returns-in-None-clause-statuses g c = (c.run_command.result, c.code.ensures)
+returns-in-None-clause-statuses g c = inl (c.run_command.result, c.code.ensures)
 
 pub returns-in-None-clause-done : goal.returns-in-None-clause-done
 returns-in-None-clause-done g c = λ is.
@@ -104,3 +104,9 @@ returns-in-Some-Show-clause-statuses g c = shows-status _ _ _ _ _ _ _ _ c.show.r
 
 pub returns-in-Some-Show-clause-alone : goal.returns-in-Some-Show-clause-alone
 returns-in-Some-Show-clause-alone g c = λ _. alone-untouched (g.D.Disk.time c.args.disk.now) (g.D.Disk.told c.args.disk.now) (g.met.D.Disk.in_time c.args.disk.now)
+
+pub returns-in-Some-Audit-clause-statuses : goal.returns-in-Some-Audit-clause-statuses
+returns-in-Some-Audit-clause-statuses g c = audits-status _ _ _ _ _ _ _ _ c.audit.result c.audit.ensures.audits
+
+pub returns-in-Some-Audit-clause-alone : goal.returns-in-Some-Audit-clause-alone
+returns-in-Some-Audit-clause-alone g c = λ _. alone-untouched (g.D.Disk.time c.args.disk.now) (g.D.Disk.told c.args.disk.now) (g.met.D.Disk.in_time c.args.disk.now)
