@@ -7,5 +7,6 @@ pub mod Safety
 pub mod Runs
 pub mod Pieces
 pub mod Readings
+pub mod Written
 pub mod ShipCuts
 pub mod FollowCuts
