@@ -5,3 +5,8 @@ pub mod FollowTurns
 pub mod Standing
 pub mod Safety
 pub mod Runs
+pub mod Pieces
+pub mod Readings
+pub mod Written
+pub mod ShipCuts
+pub mod FollowCuts

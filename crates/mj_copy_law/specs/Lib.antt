@@ -2,3 +2,4 @@ pub mod World
 pub mod CopyLaw
 pub mod MessageLaws
 pub mod CopyRuns
+pub mod Cuts

@@ -4,5 +4,5 @@
 mod laws;
 mod worked;
 
-pub use laws::{messages_are_read, the_copy_is_a_prefix};
+pub use laws::{cuts_change_nothing, messages_are_read, the_copy_is_a_prefix};
 pub use worked::the_worked_copies;
