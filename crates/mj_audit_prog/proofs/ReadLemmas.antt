@@ -1,6 +1,5 @@
 -- A text, byte by byte.
-use Rattle.std.proofs.Common.{◌≡◌, ◌<◌, ◌+◌, ℕ, Bool, true, false, cond, List, [], ◌∷◌, ◌++◌, length, map, take, drop, get_or, Option, Some, None, Result, Ok, Err, IfOk, refl, sym, ap, subst, ◌∙◌, arith, append-nil, append_assoc, length-append, take-append-drop, ltb}
-use mathlib.Core.Bool.{◌||◌}
+use Rattle.std.proofs.Common.{◌≡◌, ◌<◌, ◌≤◌, ◌+◌, ℕ, Bool, false, cond, List, [], ◌∷◌, ◌++◌, length, map, take, drop, get_or, Option, Some, None, Result, Ok, Err, IfOk, refl, sym, ap, subst, ◌∙◌, arith, append-nil, append_assoc, length-append, take-append-drop}
 use Rattle.std.specs.Prelude.{replicate}
 use Rattle.std.specs.List.{list_any, position}
 use Rattle.std.proofs.lemmas.Bool.{lt-ltb, or_from}
@@ -9,10 +8,10 @@ use Rattle.mj_ledger.proofs.Lists.{any-push}
 use Rattle.mj_audit.specs.Judging.{StandsFor}
 use Rattle.mj_audit.specs.declared.audit.Audit.{Audit}
 use Rattle.mj_audit_prog.specs.Reading.{AreHeld, IsRead, LastStep, LineStep, OctetStep, Standing}
-use Rattle.mj_audit_prog.specs.TextLines.{IsJudged, is_newline, lines_of, transcript}
+use Rattle.mj_audit_prog.specs.TextLines.{IsJudged, is_newline, lines_of}
 use Rattle.mj_audit_prog.specs.declared.reader.Reader.{Reader}
 use Rattle.mj_audit_prog.proofs.TextLemmas.{plain-begun, plain-end, plain-newline}
-use Rattle.mj_audit_prog.proofs.VerdictLemmas.{held-end, held-more, held-none, held-over}
+use Rattle.mj_audit_prog.proofs.VerdictLemmas.{held-end, held-more, held-over}
 use Rattle.mj_transcript.specs.Text.{is_silent, is_space, line_of, worded_at}
 use Rattle.mj_transcript.specs.Verdicts.{judged, verdict_after, verdict_at}
 use Rattle.mj_transcript.specs.declared.line.Line.{Line}
@@ -62,6 +61,7 @@ newline-at None old new read step r =
       split = λ rest. split-newline old read r rest ∙ sym (append_assoc r.done (old.pending.items ∷ []) (lines_of rest))
           ∙ ap (λ (l : List ℕ). (r.done ++ old.pending.items ∷ []) ++ lines_of (l ++ rest)) (sym s.1);
       plain = ap (list_any is_newline) s.1;
+      short = (let none : length new.pending.items ≡ 0 = ap length s.1 in omega (arith, none));
     }
 newline-at (Some v) old new read step r =
     let s = step r.done r.standing in
@@ -100,12 +100,13 @@ long-step old read octet pending is isnt long r rest =
     r.standing.count
     (λ more. ap (λ (line : Line). judged (map line_of r.done ++ line ∷ more)) (too-long (p ++ b.0) all) ∙ line-over r.done lined.Unlawful verdicts.Unlawful refl unheld r.standing.held more)
 
-pub octet-step : (old new : Reader) (read : List ℕ) (octet : ℕ) → new.audit ≡ old.audit → new.lines ≡ old.lines → new.pending.items ≡ old.pending.items ++ octet ∷ [] → is_newline octet ≡ false → IsRead old read → IsRead new (read ++ octet ∷ [])
-octet-step old new read octet audit lines pending isnt r = record {
+pub octet-step : (old new : Reader) (read : List ℕ) (octet : ℕ) → new.audit ≡ old.audit → new.lines ≡ old.lines → new.pending.items ≡ old.pending.items ++ octet ∷ [] → is_newline octet ≡ false → length new.pending.items ≤ 131081 → IsRead old read → IsRead new (read ++ octet ∷ [])
+octet-step old new read octet audit lines pending isnt short r = record {
   done = r.done;
   standing = record { stands = subst (λ (a : Audit). StandsFor a (map line_of r.done)) (sym audit) r.standing.stands; held = r.standing.held; count = lines ∙ r.standing.count };
   split = λ rest. split-octet old read octet r rest ∙ ap (λ (l : List ℕ). r.done ++ lines_of (l ++ rest)) (sym pending);
   plain = ap (list_any is_newline) pending ∙ plain-push old.pending.items octet r.plain isnt;
+  short = short;
 }
 
 -- ---- a piece

@@ -4,7 +4,6 @@ use Rattle.std.specs.Prelude.{replicate}
 use Rattle.mj_audit_prog.specs.Reading.{AreHeld}
 use Rattle.mj_transcript.specs.Verdicts.{judged, judged_from, verdict_after, verdict_at}
 use Rattle.mj_transcript.specs.declared.line.Line.{Line}
-use Rattle.mj_transcript.specs.declared.verdict.Law.{Law}
 use Rattle.mj_transcript.specs.declared.verdict.Verdict.{Verdict}
 use Rattle.mj_transcript.specs.declared.verdict.Verdict.TheVariants.{Held, Unlawful, Broken}
 

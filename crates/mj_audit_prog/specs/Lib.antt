@@ -1,2 +1,4 @@
 pub mod TextLines
 pub mod Reading
+pub mod Auditing
+pub mod AuditingSoFar

@@ -1,5 +1,5 @@
 -- How far a text was read.
-use Rattle.std.specs.Prelude.{ℕ, ◌≡◌, Bool, true, false, List, [], ◌∷◌, ◌++◌, length, map, replicate, Option, Some, None}
+use Rattle.std.specs.Prelude.{ℕ, ◌≡◌, ◌≤◌, false, List, [], ◌∷◌, ◌++◌, length, map, replicate, Option, Some, None}
 use Rattle.std.specs.List.{list_any}
 use Rattle.mj_audit.specs.Judging.{StandsFor}
 use Rattle.mj_audit_prog.specs.TextLines.{IsJudged, is_newline, lines_of}
@@ -36,6 +36,7 @@ pub record IsRead (r : Reader) (read : List ℕ) : Type 0 where
   pub standing : Standing r done
   pub split : (rest : List ℕ) → lines_of (read ++ rest) ≡ done ++ lines_of (r.pending.items ++ rest)
   pub plain : list_any is_newline r.pending.items ≡ false
+  pub short : length r.pending.items ≤ 131081
 
 -- the text was read, or the audit is over, whatever comes
 abbrev pub OctetStep : Option Verdict → Reader → List ℕ → Type 0

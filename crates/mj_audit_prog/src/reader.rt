@@ -96,7 +96,7 @@ impl Reader {
     }
 }
 
-fn one_more(count: u64) -> Result<u64, NoMemory>
+pub(crate) fn one_more(count: u64) -> Result<u64, NoMemory>
     ensures { IfOk result (λ more. more ≡ count + 1) }
 {
     match count.checked_add(1) {

@@ -1,4 +1,4 @@
-use Rattle.std.proofs.Common.{◌≡◌, ◌<◌, ℕ, length, rules}
+use Rattle.std.proofs.Common.{◌≡◌, ◌<◌, length, rules}
 use Rattle.std.proofs.lemmas.List.{nil_from_length}
 use Rattle.mj_audit_prog.proofs.ReadLemmas.{if-ok, last-none, last-step}
 use Rattle.mj_audit_prog.proofs.reader.Reader.take_last.Goals as goal

@@ -1,4 +1,4 @@
-use Rattle.std.proofs.Common.{◌≡◌, ◌++◌, ◌∷◌, [], List, ℕ, ap, map, rules, subst, sym, ◌∙◌}
+use Rattle.std.proofs.Common.{◌++◌, ◌∷◌, [], List, ℕ, ap, map, rules, subst, sym, ◌∙◌}
 use Rattle.mj_audit.specs.Judging.{StandsFor}
 use Rattle.mj_transcript.specs.Text.{line_of}
 use Rattle.mj_transcript.specs.Verdicts.{verdict_at}

@@ -1,4 +1,4 @@
-use Rattle.std.proofs.Common.{◌≡◌, ◌<◌, ℕ, length, rules}
+use Rattle.std.proofs.Common.{◌<◌, length, rules}
 use Rattle.std.proofs.lemmas.Bool.{ne_eqb}
 use Rattle.mj_audit_prog.proofs.ReadLemmas.{if-ok, long-step, newline-step}
 use Rattle.mj_audit_prog.proofs.reader.Reader.take_octet.Goals as goal

@@ -1,4 +1,4 @@
-use Rattle.std.proofs.Common.{◌≡◌, ◌++◌, List, ℕ, take}
+use Rattle.std.proofs.Common.{◌++◌, List, ℕ, take}
 use Rattle.mj_audit_prog.specs.Reading.{IsRead, IsReady}
 use Rattle.mj_audit_prog.proofs.reader.Reader.take_piece.Given as goal
 
