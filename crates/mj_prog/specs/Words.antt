@@ -1,10 +1,11 @@
 -- The words of the program, which are those behind its name.
-use Rattle.std.specs.Prelude.{ℕ, ◌≡◌, ◌&&◌, ◌||◌, Bool, true, false, not, nat_eq, nat_lt, length, List, [], ◌∷◌, Option, Some, None, if◌then◌else◌, codes, replicate}
+use Rattle.std.specs.Prelude.{ℕ, ◌≡◌, ◌≤◌, ◌&&◌, ◌||◌, Bool, true, false, not, nat_eq, nat_lt, length, List, [], ◌∷◌, Option, Some, None, if◌then◌else◌, codes, replicate}
 use Rattle.std.specs.List.{starts_with}
 use Rattle.std.specs.Str.{bytes_eq}
 use Rattle.hex.specs.Hex.{decode_sized}
 use Rattle.mj_prog.specs.declared.words.Command.{Command}
 use Rattle.mj_prog.specs.declared.words.Command.TheVariants as commands
+use Rattle.mj_prog.specs.declared.words.Load.{Load}
 use Rattle.mj_prog.specs.declared.words.Options.{Options}
 use Rattle.mj_prog.specs.declared.words.Tool.{Tool}
 use Rattle.mj_prog.specs.declared.words.Tool.TheVariants as tools
@@ -51,11 +52,22 @@ abbrev pub tickets_in : List ℕ → List (List ℕ) → Option Command
 tickets_in file [] = if is_file file then Some commands.Tickets else None
 tickets_in file (word ∷ more) = None
 
--- a place, `replay`, and its options; or a file and `tickets`
+-- a load of so many requests
+abbrev pub load_with : Bool → Option ℕ → Option Command
+load_with stored None = None
+load_with stored (Some requests) = Some (commands.Gen (record { stored = stored; requests = requests }))
+
+abbrev pub gen_in : List ℕ → List (List ℕ) → Option Command
+gen_in place [] = None
+gen_in place (number ∷ []) = if is_place place then load_with (is_file place) (number_between 1 60000 number) else None
+gen_in place (number ∷ word ∷ more) = None
+
+-- a place, `replay`, and its options; a file and `tickets`; or a place, `gen`, and a number
 abbrev pub command_at : List ℕ → List ℕ → List (List ℕ) → Option Command
 command_at place command more =
     if bytes_eq command (codes "replay") then replay_in place more
     else if bytes_eq command (codes "tickets") then tickets_in place more
+    else if bytes_eq command (codes "gen") then gen_in place more
     else None
 
 abbrev pub command_in : List (List ℕ) → Option Command
@@ -86,6 +98,7 @@ abbrev pub options_for : Option Command → Option Options
 options_for None = None
 options_for (Some (commands.Replay options)) = Some options
 options_for (Some commands.Tickets) = None
+options_for (Some (commands.Gen load)) = None
 
 -- the options, where the words ask for a replay
 abbrev pub options_in : List (List ℕ) → Option Options
@@ -95,6 +108,7 @@ abbrev pub is_listing : Option Command → Bool
 is_listing None = false
 is_listing (Some (commands.Replay options)) = false
 is_listing (Some commands.Tickets) = true
+is_listing (Some (commands.Gen load)) = false
 
 -- the words ask for the tickets of a file
 abbrev pub asks_for_tickets : List (List ℕ) → Bool
@@ -104,6 +118,21 @@ abbrev pub is_over_file : Option Command → Bool
 is_over_file None = false
 is_over_file (Some (commands.Replay options)) = options.stored
 is_over_file (Some commands.Tickets) = true
+is_over_file (Some (commands.Gen load)) = load.stored
+
+abbrev pub load_for : Option Command → Option Load
+load_for None = None
+load_for (Some (commands.Replay options)) = None
+load_for (Some commands.Tickets) = None
+load_for (Some (commands.Gen load)) = Some load
+
+-- 1 to 60,000 requests
+abbrev pub IsLoad : Load → Type 0
+IsLoad load = (1 ≤ load.requests) × (load.requests ≤ 60000)
+
+-- the load, where the words ask for one
+abbrev pub load_in : List (List ℕ) → Option Load
+load_in words = load_for (command_in words)
 
 -- what they ask for is done over a file
 abbrev pub has_file : List (List ℕ) → Bool

@@ -1,11 +1,14 @@
 ghost use Rattle.std.specs.Prelude.{◌≡◌, ◌≤◌, [], IfSome, map, string_bytes, codes, replicate};
 ghost use Rattle.mj_prog.specs.Words;
-ghost use Rattle.mj_prog.specs.Words.{command_at, command_in, dashed_tool, options_for, options_of, replay_in, seed_of, tickets_in, tool_in};
+ghost use Rattle.mj_prog.specs.Words.{IsLoad, command_at, command_in, dashed_tool, gen_in, load_for, load_with, options_for, options_of, replay_in, seed_of, tickets_in, tool_in};
 ghost use Rattle.mj_prog.specs.FoundValue.{IsFound, found_after};
 ghost use Rattle.mj_words.specs.Options.{number_between, once_or, values_of};
 
 use hex::FromHex;
-use mj_words::{are_options, read_option};
+use mj_words::{are_options, read_number, read_option};
+
+/// A load has at most so many requests.
+const MOST_REQUESTS: u64 = 60_000;
 
 /// The options of a replay.
 #[derive(Clone, Copy)]
@@ -16,6 +19,15 @@ pub struct Options {
     pub lanes: u32,
     /// What ticket ids are made from. Nothing uses it without a store.
     pub seed: [u8; 32],
+}
+
+/// A load that is made by rule.
+#[derive(Clone, Copy)]
+pub struct Load {
+    /// Whether tickets are kept, in the file that the disk is.
+    pub stored: bool,
+    /// Requests, 1 to 60,000.
+    pub requests: u64,
 }
 
 /// What the words ask for that needs no broker.
@@ -36,6 +48,8 @@ pub enum Command {
     Replay(Options),
     /// The open tickets of a file are listed.
     Tickets,
+    /// A load of requests is run through the broker.
+    Gen(Load),
 }
 
 /// What the search for the value of an option gives.
@@ -78,6 +92,7 @@ fn read_dashed(word: &str) -> Option<Tool>
 pub fn read_words(words: &[String]) -> Option<Command>
     ensures exact { result ≡ command_in (map string_bytes words.now) }
     ensures few { IfSome (options_for result) (λ options. options.lanes ≤ 64) }
+    ensures some { IfSome (load_for result) IsLoad }
 {
     match words {
         [place, command, more @ ..] => read_command(place.as_str(), command.as_str(), more),
@@ -88,11 +103,14 @@ pub fn read_words(words: &[String]) -> Option<Command>
 fn read_command(place: &str, command: &str, more: &[String]) -> Option<Command>
     ensures exact { result ≡ command_at place.now command.now (map string_bytes more.now) }
     ensures few { IfSome (options_for result) (λ options. options.lanes ≤ 64) }
+    ensures some { IfSome (load_for result) IsLoad }
 {
     if command == "replay" {
         read_replay(place, more)
     } else if command == "tickets" {
         read_tickets(place, more)
+    } else if command == "gen" {
+        read_gen(place, more)
     } else {
         None
     }
@@ -101,6 +119,7 @@ fn read_command(place: &str, command: &str, more: &[String]) -> Option<Command>
 fn read_tickets(file: &str, more: &[String]) -> Option<Command>
     ensures exact { result ≡ tickets_in file.now (map string_bytes more.now) }
     ensures few { IfSome (options_for result) (λ options. options.lanes ≤ 64) }
+    ensures some { IfSome (load_for result) IsLoad }
 {
     match more {
         [] if is_file(file) => Some(Command::Tickets),
@@ -108,15 +127,40 @@ fn read_tickets(file: &str, more: &[String]) -> Option<Command>
     }
 }
 
+fn read_gen(place: &str, more: &[String]) -> Option<Command>
+    ensures exact { result ≡ gen_in place.now (map string_bytes more.now) }
+    ensures few { IfSome (options_for result) (λ options. options.lanes ≤ 64) }
+    ensures some { IfSome (load_for result) IsLoad }
+{
+    match more {
+        [number] if is_place(place) => read_load(is_file(place), number.as_bytes()),
+        _ => None,
+    }
+}
+
+/// A load of so many requests, 1 to 60,000.
+fn read_load(stored: bool, number: &[u8]) -> Option<Command>
+    ensures exact { result ≡ load_with stored (number_between 1 60000 number.now) }
+    ensures few { IfSome (options_for result) (λ options. options.lanes ≤ 64) }
+    ensures some { IfSome (load_for result) IsLoad }
+{
+    match read_number(number) {
+        Some(requests) if 1 <= requests && requests <= MOST_REQUESTS => {
+            Some(Command::Gen(Load { stored, requests }))
+        }
+        _ => None,
+    }
+}
+
 fn read_replay(place: &str, words: &[String]) -> Option<Command>
     ensures exact { result ≡ replay_in place.now (map string_bytes words.now) }
     ensures few { IfSome (options_for result) (λ options. options.lanes ≤ 64) }
+    ensures some { IfSome (load_for result) IsLoad }
 {
-    let stored = is_file(place);
-    if !stored && place != "-" {
+    if !is_place(place) {
         return None;
     }
-    match read_options(stored, words) {
+    match read_options(is_file(place), words) {
         Some(options) => Some(Command::Replay(options)),
         None => None,
     }
@@ -127,6 +171,13 @@ fn is_file(name: &str) -> bool
     ensures { result ≡ Words.is_file name.now }
 {
     !name.is_empty() && name != "-" && !name.starts_with("--")
+}
+
+/// Whether it is a file's name, or `-`, which is no store.
+fn is_place(place: &str) -> bool
+    ensures { result ≡ Words.is_place place.now }
+{
+    place == "-" || is_file(place)
 }
 
 fn read_options(stored: bool, words: &[String]) -> Option<Options>
