@@ -16,13 +16,14 @@ use Rattle.mj_prog.specs.Running.{FaultCounts}
 use Rattle.mj_prog.specs.Script.{Ending, WithText, AtStop, AtUnlawful, IsLawful, script}
 use Rattle.mj_prog.specs.Shown.{fault_disk}
 use Rattle.mj_words.specs.SinkCounts.{SinkCounts}
-use Rattle.mj_prog.specs.StatusRows.{IsFileRow, IsRefusedFile, IsRow, IsUnopened, StatusCause}
+use Rattle.mj_prog.specs.StatusRows.{CommandCause, IsFileRow, IsRefusedFile, IsRow, IsUnopened, LoadCause, StatusCause}
 use Rattle.mj_prog.specs.Statuses.{code_of}
-use Rattle.mj_prog.specs.Words.{is_over_file, options_for}
+use Rattle.mj_prog.specs.Words.{is_listing, is_over_file, load_for, options_for}
 use Rattle.mj_prog.specs.declared.status.Status.{Status}
 use Rattle.mj_prog.specs.declared.status.Status.TheVariants as statuses
 use Rattle.mj_prog.specs.declared.words.Command.{Command}
 use Rattle.mj_prog.specs.declared.words.Command.TheVariants as commands
+use Rattle.mj_prog.specs.declared.words.Load.{Load}
 use Rattle.mj_prog.specs.declared.words.Options.{Options}
 
 -- a status is what its number says
@@ -82,6 +83,7 @@ pub store-row : {D : Type 0} (disks : Ghosts D) (began after : D) (command : Opt
     → Runs disks began after (options_for command) Cut → Runs disks began after (options_for command) (λ lanes first made. (disks.told began ≡ None) × Cut lanes first made)
 store-row disks began after None Cut over none runs = tt
 store-row disks began after (Some commands.Tickets) Cut over none runs = tt
+store-row disks began after (Some (commands.Gen load)) Cut over none runs = tt
 store-row disks began after (Some (commands.Replay options)) Cut over none runs = λ first begins.
     let ran = runs first begins in
     (ran.0, ran.1, (never-told options.stored options.seed (disks.told began) first begins over none (disks.told began) refl, ran.2))
@@ -106,11 +108,12 @@ told-none : (told : Option History) → told ≡ None → ((history : History) �
 told-none told none some = cc
 
 pub answers : {D : Type 0} (disks : Ghosts D) (began after : D) (command : Option Command) (counts : FaultCounts) (sink_now : ℕ) (from left old new : Option (List ℕ)) (before now : SinkCounts) (result : ℕ) (s : Status)
-    → Runs disks began after (options_for command) (λ lanes first made. IsRow lanes first made from left old new before now s) → StatusCause counts sink_now s
+    → Runs disks began after (options_for command) (λ lanes first made. IsRow lanes first made from left old new before now s) → CommandCause (load_for command) counts sink_now s
     → (s ≡ statuses.Store → IsTelling disks began → is_over_file command ≡ true) → (s ≡ statuses.Store → IsTelling disks began → NoneLawful (disks.told began)) → result ≡ code_of s
     → IfSome (options_for command) (λ options. IfSome from (λ all. (first : Machine) → Begins options.stored options.seed (disks.told began) first → IsTelling disks began → ¬ Rose counts.source_before counts.source_now → ¬ Rose counts.sink_before sink_now → ¬ Rose counts.disk_before counts.disk_now → AnswersFor (script options.lanes (take (2 ^ 40) all)).ending result))
 answers disks began after None counts sink_now from left old new before now result s runs cause over none is = tt
 answers disks began after (Some commands.Tickets) counts sink_now from left old new before now result s runs cause over none is = tt
+answers disks began after (Some (commands.Gen load)) counts sink_now from left old new before now result s runs cause over none is = tt
 answers disks began after (Some (commands.Replay options)) counts sink_now None left old new before now result s runs cause over none is = tt
 answers disks began after (Some (commands.Replay options)) counts sink_now (Some all) left old new before now result s runs cause over none is =
     λ first begins telling read written synced.
@@ -150,14 +153,24 @@ file-by told told_now old new before now statuses.Write store disk = tt
 
 -- ---- causes
 
-pub disk-cause : (counts : FaultCounts) (sink_now : ℕ) (s : Status) → s ≡ statuses.Disk → StatusCause counts sink_now s → Rose counts.disk_before counts.disk_now
-disk-cause counts sink_now s is cause = subst (λ (status : Status). StatusCause counts sink_now status) is cause
+pub disk-cause : (load : Option Load) (counts : FaultCounts) (sink_now : ℕ) (s : Status) → s ≡ statuses.Disk → CommandCause load counts sink_now s → load ≡ None → Rose counts.disk_before counts.disk_now
+disk-cause None counts sink_now s is cause none = subst (λ (status : Status). StatusCause counts sink_now status) is cause
+disk-cause (Some load) counts sink_now s is cause none = cc
 
-pub read-cause : (counts : FaultCounts) (sink_now : ℕ) (s : Status) → s ≡ statuses.Read → StatusCause counts sink_now s → Rose counts.source_before counts.source_now
-read-cause counts sink_now s is cause = subst (λ (status : Status). StatusCause counts sink_now status) is cause
+pub read-cause : (load : Option Load) (counts : FaultCounts) (sink_now : ℕ) (s : Status) → s ≡ statuses.Read → CommandCause load counts sink_now s → Rose counts.source_before counts.source_now
+read-cause None counts sink_now s is cause = subst (λ (status : Status). StatusCause counts sink_now status) is cause
+read-cause (Some load) counts sink_now s is cause = absurd (subst (λ (status : Status). LoadCause counts.sink_before sink_now status) is cause)
 
-pub write-cause : (counts : FaultCounts) (sink_now : ℕ) (s : Status) → s ≡ statuses.Write → StatusCause counts sink_now s → Rose counts.sink_before sink_now
-write-cause counts sink_now s is cause = subst (λ (status : Status). StatusCause counts sink_now status) is cause
+pub write-cause : (load : Option Load) (counts : FaultCounts) (sink_now : ℕ) (s : Status) → s ≡ statuses.Write → CommandCause load counts sink_now s → Rose counts.sink_before sink_now
+write-cause None counts sink_now s is cause = subst (λ (status : Status). StatusCause counts sink_now status) is cause
+write-cause (Some load) counts sink_now s is cause = subst (λ (status : Status). LoadCause counts.sink_before sink_now status) is cause
+
+-- the tickets are no load
+pub listing-cause : (command : Option Command) (counts : FaultCounts) (sink_now : ℕ) (s : Status) → is_listing command ≡ true → CommandCause (load_for command) counts sink_now s → StatusCause counts sink_now s
+listing-cause None counts sink_now s lists cause = cause
+listing-cause (Some (commands.Replay options)) counts sink_now s lists cause = cause
+listing-cause (Some commands.Tickets) counts sink_now s lists cause = cause
+listing-cause (Some (commands.Gen load)) counts sink_now s lists cause = cc
 
 -- ---- the tickets of a file
 

@@ -1,5 +1,5 @@
 -- What a replay's status says, before it is made a number.
-use Rattle.std.specs.Prelude.{ℕ, ◌≡◌, ◌⊎◌, ⊤, List, [], Option, Some}
+use Rattle.std.specs.Prelude.{ℕ, ◌≡◌, ◌⊎◌, ⊤, List, [], Option, Some, None}
 use Rattle.std.specs.Io.KnownBytes.{Appends, Keeps}
 use Rattle.mj_base.specs.Rising.{Rose}
 use Rattle.mj_base.specs.Writing.{AppendsFront}
@@ -7,6 +7,7 @@ use Rattle.mj_base.specs.declared.sink.WriteAnswer.{WriteAnswer}
 use Rattle.mj_base.specs.declared.sink.WriteAnswer.TheVariants as writes
 use Rattle.mj_prog.specs.declared.status.Status.{Status}
 use Rattle.mj_prog.specs.declared.status.Status.TheVariants as statuses
+use Rattle.mj_prog.specs.declared.words.Load.{Load}
 use Rattle.mj_machine.specs.MachineState.{Machine}
 use Rattle.mj_prog.specs.Made.{Made}
 use Rattle.mj_prog.specs.ReplayTable.{IsDone, IsRefused, IsCutByStore, IsCutOff, IsUnwritten, IsUnread}
@@ -41,6 +42,21 @@ StatusCause counts sink_now statuses.NoMemory = ⊤
 StatusCause counts sink_now statuses.Disk = Rose counts.disk_before counts.disk_now
 StatusCause counts sink_now statuses.Read = Rose counts.source_before counts.source_now
 StatusCause counts sink_now statuses.Write = Rose counts.sink_before sink_now
+
+-- a load's run ends with some of the statuses; of a disk that tells nothing it isn't known why it failed
+abbrev pub LoadCause : ℕ → ℕ → Status → Type 0
+LoadCause sink_before sink_now statuses.Done = ⊤
+LoadCause sink_before sink_now statuses.Words = ⊥
+LoadCause sink_before sink_now statuses.Line = ⊥
+LoadCause sink_before sink_now statuses.Store = ⊤
+LoadCause sink_before sink_now statuses.NoMemory = ⊤
+LoadCause sink_before sink_now statuses.Disk = ⊤
+LoadCause sink_before sink_now statuses.Read = ⊥
+LoadCause sink_before sink_now statuses.Write = Rose sink_before sink_now
+
+abbrev pub CommandCause : Option Load → FaultCounts → ℕ → Status → Type 0
+CommandCause None counts sink_now status = StatusCause counts sink_now status
+CommandCause (Some load) counts sink_now status = LoadCause counts.sink_before sink_now status
 
 -- nothing was served
 abbrev pub IsUnopened : Status → Type 0

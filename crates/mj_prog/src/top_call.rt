@@ -2,6 +2,7 @@ ghost use Rattle.std.specs.Prelude.{ℕ, List, ◌≡◌, ◌↔◌, ◌+◌, �
 ghost use Rattle.std.specs.Io.KnownBytes.{Appends};
 ghost use Rattle.mj_base.specs.Rising.{Rose};
 ghost use Rattle.mj_base.specs.Writing.{AppendsFront};
+ghost use Rattle.mj_gen.specs.Generating.{Generates};
 ghost use Rattle.mj_machine.specs.MachineState.{Machine};
 ghost use Rattle.mj_prog.specs.Listing.{IsOpenedAlone, ListingRow, Lists, listed};
 ghost use Rattle.mj_prog.specs.Made.{Begins, Runs};
@@ -12,9 +13,9 @@ ghost use Rattle.mj_prog.specs.Running.{fault_counts};
 ghost use Rattle.mj_prog.specs.Script.{script};
 ghost use Rattle.mj_prog.specs.Shown.{fault_disk};
 ghost use Rattle.mj_words.specs.SinkCounts.{counted};
-ghost use Rattle.mj_prog.specs.StatusRows.{IsFileRow, IsRefusedFile, IsRow, IsUnopened, StatusCause};
-ghost use Rattle.mj_prog.specs.Statuses.{IsStatus};
-ghost use Rattle.mj_prog.specs.Words.{AskForNothing, asks_for_tickets, command_in, has_file, options_in, tool_in};
+ghost use Rattle.mj_prog.specs.StatusRows.{CommandCause, IsFileRow, IsRefusedFile, IsRow, IsUnopened, LoadCause, StatusCause};
+ghost use Rattle.mj_prog.specs.Statuses.{IsStatus, code_of, status_as};
+ghost use Rattle.mj_prog.specs.Words.{AskForNothing, IsLoad, asks_for_tickets, command_in, has_file, load_in, options_in, tool_in};
 ghost use Rattle.mj_prog.specs.declared.status.Status;
 ghost use Rattle.mj_prog.specs.declared.words.Tool;
 ghost use Rattle.mj_serve.specs.Serving.{IsLeftAlone};
@@ -29,10 +30,11 @@ use super::listing::list_tickets;
 use super::progress::Progress;
 use super::run::run_script;
 use super::status::{Status, code};
-use super::words::{Command, Options, Tool, read_tool, read_words};
+use super::words::{Command, Load, Options, Tool, read_tool, read_words};
 use mj_audit_prog::audit;
 use mj_base::{Sink, Source};
 use mj_disk::Disk;
+use mj_gen::generate;
 use mj_show::{help, show};
 use mj_words::complain;
 use std::alloc::Global;
@@ -42,7 +44,7 @@ const SCRIPT_BYTES: u64 = 1 << 40;
 
 /// Does what the words say, which are those behind the program's name. `- replay`, with its options, reads a script from the
 /// source and prints what the broker does without a store; `FILE replay` does so with the tickets of the file that the disk is.
-/// `FILE tickets` prints the file's open tickets, `- show` what the stream of the source says, `- audit` whether the transcript
+/// `PLACE gen N` runs a load that is made by rule, and prints it in numbers. `FILE tickets` prints the file's open tickets, `- show` what the stream of the source says, `- audit` whether the transcript
 /// that it is keeps the laws, and `help` the names of the commands. The answer is the status that the program exits with.
 pub fn tool<S: Source, D: Disk, K: Sink>(
     alloc: Global,
@@ -72,7 +74,7 @@ pub fn tool<S: Source, D: Disk, K: Sink>(
     // A file that isn't opened: for what stands in it, or since a call of the disk failed.
     ensures refused { result ≡ 3 → IsTelling D.Disk disk.old → (has_file (map string_bytes words.now) ≡ true) × (src.new ≡ src.old) × IsRefusedFile (D.told disk.old) (D.told disk.new) (K.written out.old) (K.written out.new) (counted (K.faults out.old) (K.wants out.old)) (counted (K.faults out.new) (K.wants out.new)) }
     ensures refuses { has_file (map string_bytes words.now) ≡ true → IsTelling D.Disk disk.old → NoneLawful (D.told disk.old) → (src.new ≡ src.old) × ((result ≡ 3) ⊎ (result ≡ 4) ⊎ (result ≡ 5)) }
-    ensures opening { result ≡ 5 → Rose (D.faults disk.old) (D.faults disk.new) × (src.new ≡ src.old) × AppendsLine (K.written out.old) (K.written out.new) (counted (K.faults out.old) (K.wants out.old)) (counted (K.faults out.new) (K.wants out.new)) [] fault_disk }
+    ensures opening { result ≡ 5 → (load_in (map string_bytes words.now) ≡ None → Rose (D.faults disk.old) (D.faults disk.new)) × (src.new ≡ src.old) × AppendsLine (K.written out.old) (K.written out.new) (counted (K.faults out.old) (K.wants out.old)) (counted (K.faults out.new) (K.wants out.new)) [] fault_disk }
 
     // Without a file the disk's bytes are as they were, and a crash leaves nothing new.
     ensures alone { has_file (map string_bytes words.now) ≡ false → IsLeftAlone (D.time disk.old) (D.told disk.old) (D.told disk.new) }
@@ -82,6 +84,9 @@ pub fn tool<S: Source, D: Disk, K: Sink>(
     ensures lists_front { asks_for_tickets (map string_bytes words.now) ≡ true → (result ≡ 4) ⊎ (result ≡ 7) → Lists (D.told disk.old) (λ tickets. AppendsFront (K.written out.old) (K.written out.new) (listed tickets)) }
     ensures lists_all { asks_for_tickets (map string_bytes words.now) ≡ true → ¬ Rose (K.faults out.old) (K.faults out.new) → ¬ Rose (D.faults disk.old) (D.faults disk.new) → Lists (D.told disk.old) (λ tickets. (result ≡ 0) ⊎ (result ≡ 4)) }
     ensures opened_alone { asks_for_tickets (map string_bytes words.now) ≡ true → (src.new ≡ src.old) × IsOpenedAlone D.Disk disk.old disk.new }
+
+    // A load that is made by rule: what is printed are the numbers of the machine's run over it.
+    ensures gens { IfSome (load_in (map string_bytes words.now)) (λ load. (src.new ≡ src.old) × Generates D.Disk load.requests load.stored disk.old disk.new (K.written out.old) (K.written out.new) (counted (K.faults out.old) (K.wants out.old)) (counted (K.faults out.new) (K.wants out.new)) result) }
 
     // What needs no broker: the names of the commands, what a stream says, and whether a transcript keeps the laws.
     ensures helps { tool_in (map string_bytes words.now) ≡ Some Tool.Help → (src.new ≡ src.old) × (disk.new ≡ disk.old) × Helps (K.written out.old) (K.written out.new) (K.faults out.old) (K.faults out.new) result }
@@ -107,7 +112,7 @@ fn run_command<S: Source, D: Disk, K: Sink>(
     ensures words { (result ≡ Status.Words) ↔ (command_in (map string_bytes words.now) ≡ None) }
     ensures refused_words { result ≡ Status.Words → (src.new ≡ src.old) × (disk.new ≡ disk.old) × AppendsLine (K.written out.old) (K.written out.new) (counted (K.faults out.old) (K.wants out.old)) (counted (K.faults out.new) (K.wants out.new)) [] fault_words }
     ensures rows { Runs D.Disk disk.old disk.new (options_in (map string_bytes words.now)) (λ lanes first made. IsRow lanes first made (S.left src.old) (S.left src.new) (K.written out.old) (K.written out.new) (counted (K.faults out.old) (K.wants out.old)) (counted (K.faults out.new) (K.wants out.new)) result) }
-    ensures cause { StatusCause (fault_counts (D.faults disk.old) (D.faults disk.new) (S.faults src.old) (S.faults src.new) (K.faults out.old)) (K.faults out.new) result }
+    ensures cause { CommandCause (load_in (map string_bytes words.now)) (fault_counts (D.faults disk.old) (D.faults disk.new) (S.faults src.old) (S.faults src.new) (K.faults out.old)) (K.faults out.new) result }
     ensures no_further { IfSome (options_in (map string_bytes words.now)) (λ options. ReadsNoFurther options.lanes (S.left src.old) (S.last src.old) (S.last src.new)) }
     ensures misses { S.misses src.new ≤ S.misses src.old + 1 }
     ensures file { IsFileRow (D.told disk.old) (D.told disk.new) (K.written out.old) (K.written out.new) (counted (K.faults out.old) (K.wants out.old)) (counted (K.faults out.new) (K.wants out.new)) result }
@@ -117,14 +122,41 @@ fn run_command<S: Source, D: Disk, K: Sink>(
     ensures alone { has_file (map string_bytes words.now) ≡ false → IsLeftAlone (D.time disk.old) (D.told disk.old) (D.told disk.new) }
     ensures lists { asks_for_tickets (map string_bytes words.now) ≡ true → Lists (D.told disk.old) (λ tickets. ListingRow (listed tickets) (K.written out.old) (K.written out.new) result) }
     ensures opened_alone { asks_for_tickets (map string_bytes words.now) ≡ true → (src.new ≡ src.old) × IsOpenedAlone D.Disk disk.old disk.new }
+    ensures gens { IfSome (load_in (map string_bytes words.now)) (λ load. (src.new ≡ src.old) × Generates D.Disk load.requests load.stored disk.old disk.new (K.written out.old) (K.written out.new) (counted (K.faults out.old) (K.wants out.old)) (counted (K.faults out.new) (K.wants out.new)) (code_of result)) }
 {
     match read_words(words) {
         Some(Command::Replay(options)) => replay(alloc, options, src, disk, out),
         Some(Command::Tickets) => list_tickets(alloc, disk, out),
+        Some(Command::Gen(load)) => run_load(alloc, load, disk, out),
         None => {
             complain(b"fault words\n", out);
             Status::Words
         }
+    }
+}
+
+/// Runs a load through the broker.
+fn run_load<D: Disk, K: Sink>(alloc: Global, load: Load, disk: &mut D, out: &mut K) -> Status
+    requires { IsLoad load }
+    ensures gens { Generates D.Disk load.requests load.stored disk.old disk.new (K.written out.old) (K.written out.new) (counted (K.faults out.old) (K.wants out.old)) (counted (K.faults out.new) (K.wants out.new)) (code_of result) }
+    ensures cause { LoadCause (K.faults out.old) (K.faults out.new) result }
+    ensures file { IsFileRow (D.told disk.old) (D.told disk.new) (K.written out.old) (K.written out.new) (counted (K.faults out.old) (K.wants out.old)) (counted (K.faults out.new) (K.wants out.new)) result }
+    ensures refused { result ≡ Status.Store → IsTelling D.Disk disk.old → load.stored ≡ true }
+    ensures refuses { load.stored ≡ true → IsTelling D.Disk disk.old → NoneLawful (D.told disk.old) → IsUnopened result }
+    ensures alone { load.stored ≡ false → IsLeftAlone (D.time disk.old) (D.told disk.old) (D.told disk.new) }
+{
+    status_of(generate(alloc, load.requests, load.stored, disk, out))
+}
+
+fn status_of(status: mj_gen::Status) -> Status
+    ensures { result ≡ status_as status }
+{
+    match status {
+        mj_gen::Status::Done => Status::Done,
+        mj_gen::Status::Store => Status::Store,
+        mj_gen::Status::NoMemory => Status::NoMemory,
+        mj_gen::Status::Disk => Status::Disk,
+        mj_gen::Status::Write => Status::Write,
     }
 }
 

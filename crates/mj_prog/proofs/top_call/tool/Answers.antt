@@ -3,9 +3,9 @@ use Rattle.mj_prog.specs.Running.{fault_counts}
 use Rattle.mj_words.specs.SinkCounts.{counted}
 use Rattle.mj_prog.specs.StatusRows.{IsRow}
 use Rattle.mj_prog.specs.Statuses.{code_of}
-use Rattle.mj_prog.specs.Words.{command_in, options_in}
+use Rattle.mj_prog.specs.Words.{command_in, load_in, options_in}
 use Rattle.mj_prog.specs.declared.status.Status.TheVariants as statuses
-use Rattle.mj_prog.proofs.StatusLaws.{answers, file-row, lists-all, lists-done, lists-front, row-of, status-is, store-row, unopened-code, write-cause, read-cause, disk-cause}
+use Rattle.mj_prog.proofs.StatusLaws.{answers, file-row, lists-all, lists-done, lists-front, listing-cause, row-of, status-is, store-row, unopened-code, write-cause, read-cause, disk-cause}
 use Rattle.mj_prog.proofs.ToolLaws.{audits-status, helps-status, shows-status}
 use Rattle.mj_prog.proofs.Untouched.{alone-untouched}
 use Rattle.mj_prog.proofs.top_call.tool.Goals as goal
@@ -39,14 +39,14 @@ returns-in-None-clause-memory g c = λ is.
 
 pub returns-in-None-clause-read : goal.returns-in-None-clause-read
 returns-in-None-clause-read g c = λ is. (
-  read-cause (fault_counts (g.D.Disk.faults c.args.disk.now) (g.D.Disk.faults c.run_command.new.disk) (g.S.Source.faults c.args.src.now) (g.S.Source.faults c.run_command.new.src) (g.K.Sink.faults c.args.out.now)) (g.K.Sink.faults c.run_command.new.out) c.run_command.result (status-is c.run_command.result statuses.Read c.code.result c.code.ensures is) c.run_command.ensures.cause,
+  read-cause (load_in (map string_bytes c.args.words.now)) (fault_counts (g.D.Disk.faults c.args.disk.now) (g.D.Disk.faults c.run_command.new.disk) (g.S.Source.faults c.args.src.now) (g.S.Source.faults c.run_command.new.src) (g.K.Sink.faults c.args.out.now)) (g.K.Sink.faults c.run_command.new.out) c.run_command.result (status-is c.run_command.result statuses.Read c.code.result c.code.ensures is) c.run_command.ensures.cause,
   (row-of g.D.Disk c.args.disk.now c.run_command.new.disk (options_in (map string_bytes c.args.words.now)) (λ lanes first made s. IsRow lanes first made (g.S.Source.left c.args.src.now) (g.S.Source.left c.run_command.new.src) (g.K.Sink.written c.args.out.now) (g.K.Sink.written c.run_command.new.out) (counted (g.K.Sink.faults c.args.out.now) (g.K.Sink.wants c.args.out.now)) (counted (g.K.Sink.faults c.run_command.new.out) (g.K.Sink.wants c.run_command.new.out)) s)
       c.run_command.result statuses.Read c.run_command.ensures.rows (status-is c.run_command.result statuses.Read c.code.result c.code.ensures is)),
 )
 
 pub returns-in-None-clause-write : goal.returns-in-None-clause-write
 returns-in-None-clause-write g c = λ is. (
-  write-cause (fault_counts (g.D.Disk.faults c.args.disk.now) (g.D.Disk.faults c.run_command.new.disk) (g.S.Source.faults c.args.src.now) (g.S.Source.faults c.run_command.new.src) (g.K.Sink.faults c.args.out.now)) (g.K.Sink.faults c.run_command.new.out) c.run_command.result (status-is c.run_command.result statuses.Write c.code.result c.code.ensures is) c.run_command.ensures.cause,
+  write-cause (load_in (map string_bytes c.args.words.now)) (fault_counts (g.D.Disk.faults c.args.disk.now) (g.D.Disk.faults c.run_command.new.disk) (g.S.Source.faults c.args.src.now) (g.S.Source.faults c.run_command.new.src) (g.K.Sink.faults c.args.out.now)) (g.K.Sink.faults c.run_command.new.out) c.run_command.result (status-is c.run_command.result statuses.Write c.code.result c.code.ensures is) c.run_command.ensures.cause,
   (row-of g.D.Disk c.args.disk.now c.run_command.new.disk (options_in (map string_bytes c.args.words.now)) (λ lanes first made s. IsRow lanes first made (g.S.Source.left c.args.src.now) (g.S.Source.left c.run_command.new.src) (g.K.Sink.written c.args.out.now) (g.K.Sink.written c.run_command.new.out) (counted (g.K.Sink.faults c.args.out.now) (g.K.Sink.wants c.args.out.now)) (counted (g.K.Sink.faults c.run_command.new.out) (g.K.Sink.wants c.run_command.new.out)) s)
       c.run_command.result statuses.Write c.run_command.ensures.rows (status-is c.run_command.result statuses.Write c.code.result c.code.ensures is)),
 )
@@ -73,7 +73,7 @@ returns-in-None-clause-refuses g c = λ file telling none.
 pub returns-in-None-clause-opening : goal.returns-in-None-clause-opening
 returns-in-None-clause-opening g c = λ is.
     let at = (status-is c.run_command.result statuses.Disk c.code.result c.code.ensures is) in
-    (disk-cause (fault_counts (g.D.Disk.faults c.args.disk.now) (g.D.Disk.faults c.run_command.new.disk) (g.S.Source.faults c.args.src.now) (g.S.Source.faults c.run_command.new.src) (g.K.Sink.faults c.args.out.now)) (g.K.Sink.faults c.run_command.new.out) c.run_command.result at c.run_command.ensures.cause, c.run_command.ensures.opening at, (file-row (g.D.Disk.told c.args.disk.now) (g.D.Disk.told c.run_command.new.disk) (g.K.Sink.written c.args.out.now) (g.K.Sink.written c.run_command.new.out) (counted (g.K.Sink.faults c.args.out.now) (g.K.Sink.wants c.args.out.now)) (counted (g.K.Sink.faults c.run_command.new.out) (g.K.Sink.wants c.run_command.new.out)) c.run_command.result statuses.Disk c.run_command.ensures.file at))
+    (λ none. disk-cause (load_in (map string_bytes c.args.words.now)) (fault_counts (g.D.Disk.faults c.args.disk.now) (g.D.Disk.faults c.run_command.new.disk) (g.S.Source.faults c.args.src.now) (g.S.Source.faults c.run_command.new.src) (g.K.Sink.faults c.args.out.now)) (g.K.Sink.faults c.run_command.new.out) c.run_command.result at c.run_command.ensures.cause none, c.run_command.ensures.opening at, (file-row (g.D.Disk.told c.args.disk.now) (g.D.Disk.told c.run_command.new.disk) (g.K.Sink.written c.args.out.now) (g.K.Sink.written c.run_command.new.out) (counted (g.K.Sink.faults c.args.out.now) (g.K.Sink.wants c.args.out.now)) (counted (g.K.Sink.faults c.run_command.new.out) (g.K.Sink.wants c.run_command.new.out)) c.run_command.result statuses.Disk c.run_command.ensures.file at))
 
 pub returns-in-None-clause-complete : goal.returns-in-None-clause-complete
 returns-in-None-clause-complete g c =
@@ -89,7 +89,7 @@ returns-in-None-clause-lists_front g c = λ asks some. lists-front _ _ _ c.run_c
     (⊎_elim (λ is. inl (status-is c.run_command.result statuses.NoMemory c.code.result c.code.ensures is)) (λ is. inr (status-is c.run_command.result statuses.Write c.code.result c.code.ensures is)) some)
 
 pub returns-in-None-clause-lists_all : goal.returns-in-None-clause-lists_all
-returns-in-None-clause-lists_all g c = λ asks written synced. lists-all _ _ _ (fault_counts (g.D.Disk.faults c.args.disk.now) (g.D.Disk.faults c.run_command.new.disk) (g.S.Source.faults c.args.src.now) (g.S.Source.faults c.run_command.new.src) (g.K.Sink.faults c.args.out.now)) (g.K.Sink.faults c.run_command.new.out) c.code.result c.run_command.result (c.run_command.ensures.lists asks) c.run_command.ensures.cause c.code.ensures written synced
+returns-in-None-clause-lists_all g c = λ asks written synced. lists-all _ _ _ (fault_counts (g.D.Disk.faults c.args.disk.now) (g.D.Disk.faults c.run_command.new.disk) (g.S.Source.faults c.args.src.now) (g.S.Source.faults c.run_command.new.src) (g.K.Sink.faults c.args.out.now)) (g.K.Sink.faults c.run_command.new.out) c.code.result c.run_command.result (c.run_command.ensures.lists asks) (listing-cause (command_in (map string_bytes c.args.words.now)) _ _ c.run_command.result asks c.run_command.ensures.cause) c.code.ensures written synced
 
 -- ---- what needs no broker
 
