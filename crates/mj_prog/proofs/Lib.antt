@@ -16,3 +16,4 @@ pub mod ReadingStops
 pub mod Untouched
 pub mod Listings
 pub mod ToolLaws
+pub mod LoadLaws
