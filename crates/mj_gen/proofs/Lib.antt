@@ -1,0 +1,5 @@
+mod Places
+mod Sizes
+mod Tallies
+mod Loads
+mod Endings

@@ -1,0 +1,10 @@
+pub mod Generated
+pub mod ToCome
+pub mod Texts
+pub mod LoadRows
+pub mod Counting
+pub mod Standing
+pub mod Statuses
+pub mod Finishing
+pub mod Answering
+pub mod Generating
