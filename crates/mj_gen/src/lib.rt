@@ -13,4 +13,5 @@ mod top_call;
 
 pub use laws::the_generated_load;
 pub use ports::GenPorts;
+pub use status::{Status, code};
 pub use top_call::generate;

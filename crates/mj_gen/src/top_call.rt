@@ -2,12 +2,13 @@ ghost use Rattle.std.specs.Prelude.{◌≡◌, ◌≤◌, true, false, Option, S
 ghost use Rattle.mj_gen.specs.Finishing.{IsFinished};
 ghost use Rattle.mj_gen.specs.Generating.{Generates, HasRun};
 ghost use Rattle.mj_gen.specs.Answering.{answered};
+ghost use Rattle.mj_gen.specs.Statuses.{code_of};
 ghost use Rattle.mj_words.specs.SinkCounts.{counted};
 
 use crate::counts::Counts;
 use crate::finishing::finish;
 use crate::ports::GenPorts;
-use crate::status::code;
+use crate::status::Status;
 use mj_base::{Limits, Sink};
 use mj_disk::Disk;
 use mj_serve::{ServeFault, Summary, serve};
@@ -15,20 +16,20 @@ use std::alloc::Global;
 
 /// Runs the generated load of so many requests, 1 to 60,000, through the broker at standard limits, with the tickets of the file
 /// that the disk is, or without a store, and prints what it did: `events`, `pieces`, `octets` (the bytes of all pieces), `ends`
-/// and `done`, a line each. The answer is the status that the program exits with.
+/// and `done`, a line each.
 pub fn generate<D: Disk, K: Sink>(
     alloc: Global,
     n: u64,
     stored: bool,
     disk: &mut D,
     out: &mut K,
-) -> u8
+) -> Status
     requires some { 1 ≤ n }
     requires few { n ≤ 60000 }
-    ensures { Generates D.Disk n stored disk.old disk.new (K.written out.old) (K.written out.new) (counted (K.faults out.old) (K.wants out.old)) (counted (K.faults out.new) (K.wants out.new)) result }
+    ensures { Generates D.Disk n stored disk.old disk.new (K.written out.old) (K.written out.new) (counted (K.faults out.old) (K.wants out.old)) (counted (K.faults out.new) (K.wants out.new)) (code_of result) }
 {
     let answer = run(alloc, n, stored, disk);
-    code(finish(alloc, answer, out))
+    finish(alloc, answer, out)
 }
 
 /// Runs the load, and counts.

@@ -1,6 +1,6 @@
 use mj_base::{MemorySink, Octets};
 use mj_disk::MemoryDisk;
-use mj_gen::{generate, the_generated_load};
+use mj_gen::{code, generate, the_generated_load};
 use std::alloc::Global;
 use std::test::Fail;
 
@@ -105,7 +105,7 @@ fn loads_are_counted(rt: HostRuntime) -> Result<(), Fail> {
         }
         let mut disk = disk_of(alloc, row)?;
         let mut out = MemorySink::new(alloc, failing(alloc, row.sink_fails, 0)?);
-        let status = generate(alloc, row.n, row.stored, &mut disk, &mut out);
+        let status = code(generate(alloc, row.n, row.stored, &mut disk, &mut out));
         assert!(rt; status == row.status);
         assert!(rt; out.written() == row.printed);
         assert!(rt; disk.as_slice().len() == row.size);
@@ -126,7 +126,7 @@ fn an_act_that_fails_ends_the_run(rt: HostRuntime) -> Result<(), Fail> {
         };
         let mut disk = disk_of(alloc, &row)?;
         let mut out = MemorySink::new(alloc, Vec::new(alloc));
-        let status = generate(alloc, 1, true, &mut disk, &mut out);
+        let status = code(generate(alloc, 1, true, &mut disk, &mut out));
         if status == 5 {
             assert!(rt; out.written() == b"fault disk\n".as_slice());
             ended += 1;
