@@ -44,8 +44,9 @@ const SCRIPT_BYTES: u64 = 1 << 40;
 
 /// Does what the words say, which are those behind the program's name. `- replay`, with its options, reads a script from the
 /// source and prints what the broker does without a store; `FILE replay` does so with the tickets of the file that the disk is.
-/// `PLACE gen N` runs a load that is made by rule, and prints it in numbers. `FILE tickets` prints the file's open tickets, `- show` what the stream of the source says, `- audit` whether the transcript
-/// that it is keeps the laws, and `help` the names of the commands. The answer is the status that the program exits with.
+/// `PLACE gen N` runs a load that is made by rule, and prints what the broker did in numbers. `FILE tickets` prints the file's
+/// open tickets, `- show` what the stream of the source says, `- audit` whether the transcript that it is keeps the laws, and
+/// `help` the names of the commands. The answer is the status that the program exits with.
 pub fn tool<S: Source, D: Disk, K: Sink>(
     alloc: Global,
     words: &[String],
