@@ -1,5 +1,5 @@
 -- Laws of options among words.
-use Rattle.std.proofs.Common.{◌≡◌, ◌<◌, ◌≤◌, ◌+◌, ◌-◌, ◌*◌, ◌/◌, ◌%◌, ◌&&◌, ℕ, suc, Bool, true, false, cond, List, [], ◌∷◌, length, get_or, map, drop, Option, Some, None, refl, sym, ap, ◌∙◌, subst, arith, length-drop}
+use Rattle.std.proofs.Common.{◌≡◌, ◌<◌, ◌≤◌, ◌+◌, ◌-◌, ◌*◌, ◌/◌, ◌%◌, ℕ, suc, Bool, true, false, cond, List, [], ◌∷◌, length, get_or, map, drop, Option, Some, None, refl, sym, ap, ◌∙◌, subst, arith, length-drop}
 use Rattle.std.proofs.Math.Seq.{drop-cons}
 use Rattle.std.proofs.lemmas.List.{get_or-map, length-map}
 use Rattle.std.specs.Str.{bytes_eq}
@@ -84,14 +84,16 @@ too-few-words [] few = refl
 too-few-words (place ∷ []) few = refl
 too-few-words (place ∷ command ∷ more) few = absurd (omega arith)
 
-shown-alone : (place word : List ℕ) (tool : Tool) (here shown : Bool) → bytes_eq word (codes "show") ≡ shown → cond (here && shown) (Some tools.Show) None ≡ Some tool → command_in (place ∷ word ∷ []) ≡ None
-shown-alone place word tool true true same is = subst (λ (w : List ℕ). command_in (place ∷ w ∷ []) ≡ None) (sym ((bytes_eq-Decides word (codes "show")).0 same)) refl
-shown-alone place word tool true false same is = absurd (cc)
-shown-alone place word tool false shown same is = absurd (cc)
+dashed-alone : (place word : List ℕ) (tool : Tool) (here shown audited : Bool) → bytes_eq word (codes "show") ≡ shown → bytes_eq word (codes "audit") ≡ audited
+    → cond here (cond shown (Some tools.Show) (cond audited (Some tools.Audit) None)) None ≡ Some tool → command_in (place ∷ word ∷ []) ≡ None
+dashed-alone place word tool true true audited same other is = subst (λ (w : List ℕ). command_in (place ∷ w ∷ []) ≡ None) (sym ((bytes_eq-Decides word (codes "show")).0 same)) refl
+dashed-alone place word tool true false true same other is = subst (λ (w : List ℕ). command_in (place ∷ w ∷ []) ≡ None) (sym ((bytes_eq-Decides word (codes "audit")).0 other)) refl
+dashed-alone place word tool true false false same other is = absurd (cc)
+dashed-alone place word tool false shown audited same other is = absurd (cc)
 
 -- what asks for a tool asks for nothing of the broker
 pub tools-alone : (words : List (List ℕ)) (tool : Tool) → tool_in words ≡ Some tool → command_in words ≡ None
 tools-alone [] tool is = refl
 tools-alone (word ∷ []) tool is = refl
-tools-alone (place ∷ word ∷ []) tool is = shown-alone place word tool (bytes_eq place (codes "-")) (bytes_eq word (codes "show")) refl is
+tools-alone (place ∷ word ∷ []) tool is = dashed-alone place word tool (bytes_eq place (codes "-")) (bytes_eq word (codes "show")) (bytes_eq word (codes "audit")) refl refl is
 tools-alone (place ∷ word ∷ other ∷ more) tool is = cc
