@@ -1,5 +1,5 @@
 -- What a run's end, its status and what is printed say together.
-use Rattle.std.proofs.Common.{◌≡◌, ◌⊎◌, ◌++◌, ℕ, zero, suc, Bool, true, false, List, [], take, length, Option, Result, Ok, Err, IsErr, refl, sym, ap, ◌∙◌, subst, inl, inr, arith}
+use Rattle.std.proofs.Common.{◌≡◌, ℕ, zero, suc, Bool, true, false, List, [], take, length, Option, Result, Ok, Err, IsErr, refl, sym, ap, ◌∙◌, subst, inl, inr, arith}
 use Rattle.std.specs.Io.KnownBytes.{Appends}
 use Rattle.mj_base.specs.Rising.{Rose}
 use Rattle.mj_base.specs.StandardLimits.{standard_limits}
@@ -15,13 +15,12 @@ use Rattle.mj_serve.specs.Faults.{IsFileFault}
 use Rattle.mj_serve.specs.declared.fault.ServeFault.{ServeFault}
 use Rattle.mj_serve.specs.declared.fault.ServeFault.TheVariants as faults
 use Rattle.mj_store.specs.Opening.{NoneLawful}
-use Rattle.mj_store.specs.Standing.{IsTelling}
 use Rattle.mj_words.specs.Lines.{AppendsLine}
 use Rattle.mj_words.specs.SinkCounts.{SinkCounts}
-use Rattle.mj_gen.specs.Counting.{AreCounted, counts_text, ends_in, octets_in, text_of}
+use Rattle.mj_gen.specs.Counting.{AreCounted, counts_text, octets_in, text_of}
 use Rattle.mj_gen.specs.Finishing.{IsFinished, fault_line, status_for, text_for}
 use Rattle.mj_gen.specs.Generated.{generated}
-use Rattle.mj_gen.specs.Generating.{Begins, Generates, HasRun, IsWhole, load_text}
+use Rattle.mj_gen.specs.Generating.{Begins, Generates, HasRun, load_text}
 use Rattle.mj_gen.specs.Statuses.{code_of}
 use Rattle.mj_gen.specs.declared.counts.Counts.{Counts}
 use Rattle.mj_gen.specs.declared.status.Status.{Status}

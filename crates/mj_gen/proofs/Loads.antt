@@ -1,5 +1,5 @@
 -- What serving the load says of the machine's run.
-use Rattle.std.proofs.Common.{◌≡◌, ◌<◌, ◌≤◌, ◌+◌, ◌-◌, ◌^◌, ℕ, Bool, true, false, nat_le, min, List, [], ◌∷◌, ◌++◌, length, Option, Some, None, Result, Ok, Err, IfOk, IfErr, OnErr, OnOk, IsErr, IsErrOf, refl, sym, ap, ◌∙◌, subst, append-nil, arith}
+use Rattle.std.proofs.Common.{◌≡◌, ◌≤◌, ℕ, Bool, true, false, nat_le, List, [], ◌∷◌, ◌++◌, Option, Some, None, Result, Ok, Err, IfOk, IfErr, OnErr, OnOk, IsErr, IsErrOf, refl, sym, ap, ◌∙◌, subst, append-nil, arith}
 use Rattle.std.proofs.lemmas.Bool.Decides.{nat_tests}
 use Rattle.std.specs.List.{list_any}
 use Rattle.mj_base.specs.Rising.{Rose, risen}
@@ -68,6 +68,13 @@ counted-of counts these events given is counted = subst (λ (c : Option Counts).
 
 no-ok : (summary : Summary) → IsErr {T = Summary} {E = ServeFault} (Ok summary) → ⊥
 no-ok summary e = cc
+
+err-is : (fault : ServeFault) → fault ≡ faults.DiskFault → IsErrOf {T = Summary} (Err fault) faults.DiskFault
+err-is fault is = cc
+
+-- the same fault of another call
+err-of : (fault : ServeFault) → IsErrOf {T = Counts} (Err fault) faults.DiskFault → IsErrOf {T = Summary} (Err fault) faults.DiskFault
+err-of fault is = let same : fault ≡ faults.DiskFault = cc in err-is fault same
 
 -- ---- the run
 
@@ -272,7 +279,7 @@ module _ {P D : Type 0} (stand : P → P → List Event → List Entry → Type 
       has-run (Err fault) over without ended_over ended_without stop cause unopened refused lawful unlawful = record {
         whole = tt;
         part = λ first begun. early stored refl ended_over ended_without first begun;
-        cause = λ is known. (cause is).0;
+        cause = λ is known. (cause (err-of fault is)).0;
         lawful = lawful;
         refused = λ kind telling. let r = refused kind telling in (r.0, unopened telling, r.2);
         unlawful = λ is telling none. refl;

@@ -1,5 +1,5 @@
 -- Each event of the load is one that a broker with eight lanes takes.
-use Rattle.std.proofs.Common.{◌≡◌, ◌<◌, ◌≤◌, ◌+◌, ◌*◌, ◌^◌, ◌%◌, ◌/◌, ℕ, zero, suc, Bool, true, false, nat_lt, List, [], ◌∷◌, ◌++◌, length, codes, cond, Result, Ok, Err, IfOk, refl, sym, subst, arith, length-append}
+use Rattle.std.proofs.Common.{◌≡◌, ◌<◌, ◌≤◌, ◌+◌, ◌%◌, ◌/◌, ℕ, zero, suc, Bool, true, false, nat_lt, List, [], ◌∷◌, length, codes, cond, Result, Ok, Err, IfOk, refl, sym, subst, arith, length-append}
 use Rattle.std.proofs.Math.Nat.{mod-lt}
 use Rattle.std.proofs.lemmas.Fmt.{length-decimal-le}
 use Rattle.std.specs.Fmt.{decimal}
@@ -13,7 +13,7 @@ use Rattle.mj_frame.specs.declared.head.Head.{Head}
 use Rattle.mj_machine.specs.Sending.{address}
 use Rattle.mj_queue.specs.declared.request.Origin.TheVariants.{Client}
 use Rattle.mj_worker_cmd.specs.declared.command.WorkerAct.TheVariants as said
-use Rattle.mj_gen.specs.Generated.{asker, asks, hello, says, server, service, speaks}
+use Rattle.mj_gen.specs.Generated.{asker, asks, says, server, service, speaks}
 use Rattle.mj_gen.specs.ToCome.{IsPlace, event_of}
 use Rattle.mj_gen.specs.declared.load.Turn.{Turn}
 use Rattle.mj_gen.specs.declared.load.Turn.TheVariants.{Open, Hello, Greeted, Shaken, Ask, Serve, Taken, Reply, Answered, File, Filed, Over}

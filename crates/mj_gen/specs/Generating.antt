@@ -1,5 +1,5 @@
 -- What a run of the generated load makes of the disk, and what is printed of it.
-use Rattle.std.specs.Prelude.{ℕ, ◌≡◌, ◌≤◌, ◌⊎◌, Bool, true, false, List, [], ◌++◌, length, replicate, Option, Result, Ok, Err, IfOk, IfErr, IsErr, IsErrOf}
+use Rattle.std.specs.Prelude.{ℕ, ◌≡◌, ◌≤◌, ◌⊎◌, Bool, true, false, List, [], ◌++◌, length, replicate, Option, Result, IfOk, IfErr, IsErr, IsErrOf}
 use Rattle.std.specs.Io.KnownBytes.{Appends}
 use Rattle.mj_base.specs.Rising.{Rose}
 use Rattle.mj_base.specs.StandardLimits.{standard_limits}

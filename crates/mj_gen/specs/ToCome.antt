@@ -3,7 +3,7 @@ use Rattle.std.specs.Prelude.{ℕ, ◌≡◌, ◌+◌, ◌-◌, ◌≤◌, Bool,
 use Rattle.std.specs.List.{range_with_len}
 use Rattle.mj_base.specs.declared.event.Event.{Event}
 use Rattle.mj_base.specs.declared.event.Event.TheVariants as events
-use Rattle.mj_gen.specs.Generated.{answering, asker, asking, below, filing, generated, hello, joining, replying, server, serving, storing, tickets}
+use Rattle.mj_gen.specs.Generated.{answering, asker, asking, below, filing, hello, joining, replying, server, serving, storing, tickets}
 use Rattle.mj_gen.specs.declared.load.Turn.{Turn}
 use Rattle.mj_gen.specs.declared.load.Turn.TheVariants.{Open, Hello, Greeted, Shaken, Ask, Serve, Taken, Reply, Answered, File, Filed, Over}
 

@@ -1,4 +1,4 @@
-use Rattle.std.proofs.Common.{ℕ, List, Result, length, ap, sym, subst, arith}
+use Rattle.std.proofs.Common.{List, Result, length, ap, sym, subst, arith}
 use Rattle.mj_base.specs.declared.event.Event.{Event}
 use Rattle.mj_serve.specs.Given.{Entry}
 use Rattle.mj_serve.specs.declared.fault.ServeFault.{ServeFault}
