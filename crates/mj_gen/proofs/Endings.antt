@@ -61,6 +61,7 @@ module _ {D : Type 0} (disks : Ghosts D) (n : ℕ) (stored : Bool) (began after 
   at-memory answer is run written = record {
     statuses = (statuses.NoMemory, is);
     done = λ zero. absurd (omega (arith, is, zero));
+    prints = λ zero. absurd (omega (arith, is, zero));
     write = λ seven. absurd (omega (arith, is, seven));
     memory = λ four. written;
     store = λ three. absurd (omega (arith, is, three));
@@ -79,6 +80,7 @@ module _ {D : Type 0} (disks : Ghosts D) (n : ℕ) (stored : Bool) (began after 
   at-done counts is run written = record {
     statuses = (statuses.Done, is);
     done = λ zero first begins. let w = run.whole first begins in (w.0, subst (Appends old new) (text-at counts first w.1) written);
+    prints = λ zero. let t = run.told in (t.0, subst (Appends old new) (text-is counts (generated n stored) t.0 t.1) written);
     write = λ seven. absurd (omega (arith, is, seven));
     memory = λ four. absurd (omega (arith, is, four));
     store = λ three. absurd (omega (arith, is, three));
@@ -93,6 +95,7 @@ module _ {D : Type 0} (disks : Ghosts D) (n : ℕ) (stored : Bool) (began after 
   at-write counts is run rose written = record {
     statuses = (statuses.Write, is);
     done = λ zero. absurd (omega (arith, is, zero));
+    prints = λ zero. absurd (omega (arith, is, zero));
     write = λ seven. (rose, λ first begins. let w = run.whole first begins in (w.0, subst (AppendsFront old new) (text-at counts first w.1) written));
     memory = λ four. absurd (omega (arith, is, four));
     store = λ three. absurd (omega (arith, is, three));
@@ -107,6 +110,7 @@ module _ {D : Type 0} (disks : Ghosts D) (n : ℕ) (stored : Bool) (began after 
   at-store fault is kind run line = record {
     statuses = (statuses.Store, is);
     done = λ zero. absurd (omega (arith, is, zero));
+    prints = λ zero. absurd (omega (arith, is, zero));
     write = λ seven. absurd (omega (arith, is, seven));
     memory = λ four. absurd (omega (arith, is, four));
     store = λ three. record { fault = fault; kind = kind; line = line; lawful = run.lawful kind; why = run.refused kind };
@@ -121,6 +125,7 @@ module _ {D : Type 0} (disks : Ghosts D) (n : ℕ) (stored : Bool) (began after 
   at-disk is run line = record {
     statuses = (statuses.Disk, is);
     done = λ zero. absurd (omega (arith, is, zero));
+    prints = λ zero. absurd (omega (arith, is, zero));
     write = λ seven. absurd (omega (arith, is, seven));
     memory = λ four. absurd (omega (arith, is, four));
     store = λ three. absurd (omega (arith, is, three));

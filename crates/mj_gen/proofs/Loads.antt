@@ -21,6 +21,7 @@ use Rattle.mj_machine.specs.StoreState.{Store, no_store, opened_store}
 use Rattle.mj_serve.specs.Faults.{IsFileFault, IsUnserved}
 use Rattle.mj_serve.specs.Given.{Entry, events_in, outs_given}
 use Rattle.mj_serve.specs.RunLaws.{KeepsNothing, KeepsTickets}
+use Rattle.mj_serve.specs.Running.{Stood}
 use Rattle.mj_serve.specs.Serving.{EndedEarly, EndedOver, EndedWithout, IsLeftAlone, Served, ServedOver, ServedWithout}
 use Rattle.mj_serve.specs.declared.fault.ServeFault.{ServeFault}
 use Rattle.mj_serve.specs.declared.fault.ServeFault.TheVariants as faults
@@ -235,11 +236,19 @@ module _ {P D : Type 0} (stand : P → P → List Event → List Entry → Type 
     rose false summary is over without unlawful failed known = rose-good (start_with standard_limits no_store) summary (good-without summary is without) failed
 
     module _ (plain-is : stored ≡ false → IsLeftAlone (disks.time began) (disks.told began) (disks.told after)) where
-      has-run-ok : (summary : Summary) (s : Bool) (c : Option Counts) → shut ≡ s → counts ≡ c → SaysOver summary → SaysWithout summary → stopped ≡ true
+      -- all events were taken, whatever the disk tells
+      told-at : (these : Counts) → counts ≡ Some these → stopped ≡ true → shut ≡ false → Stood stand origin ports → (given : List Out) × AreCounted these (generated n stored) given
+      told-at these are stop unshut stood =
+          let s = seen stood.0 stood.1 stood.2 in
+          let all : generated n stored ≡ stood.0 = s.events ∙ ap (λ (r : List Event). stood.0 ++ r) (s.whole stop unshut) ∙ append-nil stood.0 in
+          (outs_given stood.1, subst (λ (e : List Event). AreCounted these e (outs_given stood.1)) (sym all) (counted-of counts these stood.0 (outs_given stood.1) are s.counted))
+
+      has-run-ok : (summary : Summary) (s : Bool) (c : Option Counts) → Stood stand origin ports → shut ≡ s → counts ≡ c → SaysOver summary → SaysWithout summary → stopped ≡ true
           → (stored ≡ true → IsTelling disks began → NoneLawful (disks.told began) → ⊥)
           → HasRun disks n stored began after (answered (Ok summary) s c)
-      has-run-ok summary true c failed are over without stop unlawful = record {
+      has-run-ok summary true c stood failed are over without stop unlawful = record {
         whole = tt;
+        told = tt;
         part = λ first begun. part-good first summary (good stored summary refl over without first begun);
         cause = λ is known. rose stored summary refl over without unlawful failed known;
         lawful = λ kind. absurd kind;
@@ -247,8 +256,9 @@ module _ {P D : Type 0} (stand : P → P → List Event → List Entry → Type 
         unlawful = λ is telling none. refl;
         alone = plain-is;
       }
-      has-run-ok summary false None unshut are over without stop unlawful = record {
+      has-run-ok summary false None stood unshut are over without stop unlawful = record {
         whole = tt;
+        told = tt;
         part = λ first begun. part-good first summary (good stored summary refl over without first begun);
         cause = λ is known. absurd (cc is);
         lawful = λ kind. absurd kind;
@@ -256,8 +266,9 @@ module _ {P D : Type 0} (stand : P → P → List Event → List Entry → Type 
         unlawful = λ is telling none. refl;
         alone = plain-is;
       }
-      has-run-ok summary false (Some these) unshut are over without stop unlawful = record {
+      has-run-ok summary false (Some these) stood unshut are over without stop unlawful = record {
         whole = λ first begun. whole-good first summary (good stored summary refl over without first begun) these are stop unshut;
+        told = told-at these are stop unshut stood;
         part = λ first begun. part-good first summary (good stored summary refl over without first begun);
         cause = λ is known. absurd (cc is);
         lawful = tt;
@@ -266,7 +277,7 @@ module _ {P D : Type 0} (stand : P → P → List Event → List Entry → Type 
         alone = plain-is;
       }
 
-      pub has-run : (answer : Result Summary ServeFault)
+      pub has-run : (answer : Result Summary ServeFault) → Stood stand origin ports
           → IfOk answer (λ summary. SaysOver summary) → IfOk answer (λ summary. SaysWithout summary) → OnErr answer EndsOver → OnErr answer EndsWithout → OnOk answer (stopped ≡ true)
           → (IsErrOf answer faults.DiskFault → Rose (disks.faults began) (disks.faults after) × (ports ≡ origin))
           → IfErr answer (λ fault. IsTelling disks began → IsUnserved fault (disks.told began) (disks.told after))
@@ -274,10 +285,11 @@ module _ {P D : Type 0} (stand : P → P → List Event → List Entry → Type 
           → IfErr answer (λ fault. IsFileFault fault → NoneLawful (disks.told began))
           → (stored ≡ true → IsTelling disks began → NoneLawful (disks.told began) → IsErr answer × (ports ≡ origin))
           → HasRun disks n stored began after (answered answer shut counts)
-      has-run (Ok summary) over without ended_over ended_without stop cause unopened refused lawful unlawful =
-          has-run-ok summary shut counts refl refl over without stop (λ is telling none. let u = unlawful is telling none in no-ok summary u.0)
-      has-run (Err fault) over without ended_over ended_without stop cause unopened refused lawful unlawful = record {
+      has-run (Ok summary) stood over without ended_over ended_without stop cause unopened refused lawful unlawful =
+          has-run-ok summary shut counts stood refl refl over without stop (λ is telling none. let u = unlawful is telling none in no-ok summary u.0)
+      has-run (Err fault) stood over without ended_over ended_without stop cause unopened refused lawful unlawful = record {
         whole = tt;
+        told = tt;
         part = λ first begun. early stored refl ended_over ended_without first begun;
         cause = λ is known. (cause (err-of fault is)).0;
         lawful = lawful;

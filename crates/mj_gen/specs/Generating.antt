@@ -5,6 +5,7 @@ use Rattle.mj_base.specs.Rising.{Rose}
 use Rattle.mj_base.specs.StandardLimits.{standard_limits}
 use Rattle.mj_base.specs.Writing.{AppendsFront}
 use Rattle.mj_base.specs.declared.event.Event.{Event}
+use Rattle.mj_base.specs.declared.event.Out.{Out}
 use Rattle.mj_disk.specs.DiskModel.{History, IsSettled, LeavesOnly, Now, Turns}
 use Rattle.mj_disk.specs.declared.disk.Disk.{Ghosts}
 use Rattle.mj_journal.specs.Opening.{KeepsFile}
@@ -80,6 +81,7 @@ module _ {D : Type 0} (disks : Ghosts D) (n : ℕ) (stored : Bool) (began after 
   -- a run that gave these numbers, or ended early
   pub record HasRun (answer : Result Counts ServeFault) : Type 0 where
     pub whole : IfOk answer (λ counts. (first : Machine) → Begins stored (disks.told began) first → IsWhole first × AreCounted counts (generated n stored) (run_outs standard_limits first (plainly (generated n stored))))
+    pub told : IfOk answer (λ counts. (given : List Out) × AreCounted counts (generated n stored) given)
     pub part : (first : Machine) → Begins stored (disks.told began) first → IsPart first
     pub cause : IsErrOf answer DiskFault → IsKnown → Rose (disks.faults began) (disks.faults after)
     pub lawful : IfErr answer (λ fault. IsFileFault fault → NoneLawful (disks.told began))
@@ -104,6 +106,8 @@ module _ {D : Type 0} (disks : Ghosts D) (n : ℕ) (stored : Bool) (began after 
     pub statuses : IsStatus status
     -- the five lines are the counts of the machine's run over all events
     pub done : status ≡ 0 → (first : Machine) → Begins stored (disks.told began) first → IsWhole first × Appends old new (load_text first)
+    -- whatever the disk tells, they are of all events of the load
+    pub prints : status ≡ 0 → (given : List Out) × Appends old new (counts_text (generated n stored) given)
     -- a front of them is written, since the write failed
     pub write : status ≡ 7 → Rose before.faults now.faults × ((first : Machine) → Begins stored (disks.told began) first → IsWhole first × AppendsFront old new (load_text first))
     pub memory : status ≡ 4 → Appends old new []

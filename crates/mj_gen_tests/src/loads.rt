@@ -117,7 +117,7 @@ fn loads_are_counted(rt: HostRuntime) -> Result<(), Fail> {
 #[test]
 fn an_act_that_fails_ends_the_run(rt: HostRuntime) -> Result<(), Fail> {
     let alloc = rt.alloc();
-    let mut ended = 0;
+    let mut ended: u64 = 0;
     for call in 0..40 {
         let row = Row {
             stored: true,
@@ -129,7 +129,7 @@ fn an_act_that_fails_ends_the_run(rt: HostRuntime) -> Result<(), Fail> {
         let status = code(generate(alloc, 1, true, &mut disk, &mut out));
         if status == 5 {
             assert!(rt; out.written() == b"fault disk\n".as_slice());
-            ended += 1;
+            ended = ended.saturating_add(1);
         } else {
             assert!(rt; status == 0);
         }

@@ -25,4 +25,4 @@ returns g c =
     (has-run (λ (origin : GenPorts) (now : GenPorts) (taken : List Event) (given : List Entry). Stands (from origin) (from now) now.counts now.shut now.stopped taken given) g.D.Disk c.new-ports.result ports c.args.disk.now c.serve-served.new.disk c.args.n c.args.stored
     (from ports) ports.counts ports.shut ports.stopped
     (λ taken given stands. subst (λ (first : List Event). Stands first (from ports) ports.counts ports.shut ports.stopped taken given) c.new-ports.ensures.begins stands)
-    c.standard.result c.standard.ensures c.new-ports.ensures.stand e.plain c.serve-served.result e.served e.served_without e.ended e.ended_without e.stopped e.cause e.unopened e.refused e.lawful e.unlawful)
+    c.standard.result c.standard.ensures c.new-ports.ensures.stand e.plain c.serve-served.result (e.stood c.new-ports.ensures.stand) e.served e.served_without e.ended e.ended_without e.stopped e.cause e.unopened e.refused e.lawful e.unlawful)
