@@ -1,10 +1,9 @@
 -- What the run of a load says of its status.
-use Rattle.std.proofs.Common.{◌≡◌, ◌⊎◌, ◌×◌, ℕ, Bool, true, List, [], Option, Some, inl, inr, refl, sym, ap, subst}
-use Rattle.mj_base.specs.Rising.{Rose}
+use Rattle.std.proofs.Common.{◌≡◌, ◌⊎◌, ℕ, Bool, true, List, [], Option, inl, inr, refl}
 use Rattle.mj_disk.specs.DiskModel.{Turns}
 use Rattle.mj_disk.specs.declared.disk.Disk.{Ghosts}
 use Rattle.mj_gen.specs.Finishing.{fault_line}
-use Rattle.mj_gen.specs.Generating.{Generates, IsRefusedFile as IsRefusedLoad}
+use Rattle.mj_gen.specs.Generating.{Generates}
 use Rattle.mj_gen.specs.Statuses.{code_of as gen_code}
 use Rattle.mj_gen.specs.declared.status.Status.{Status as GenStatus}
 use Rattle.mj_gen.specs.declared.status.Status.TheVariants as gens
@@ -16,13 +15,9 @@ use Rattle.mj_store.specs.Opening.{NoneLawful}
 use Rattle.mj_store.specs.Standing.{IsTelling}
 use Rattle.mj_words.specs.Lines.{AppendsLine}
 use Rattle.mj_words.specs.SinkCounts.{SinkCounts}
-use Rattle.mj_prog.specs.Running.{IsFileRefused, served_fault}
-use Rattle.mj_prog.specs.Shown.{store_line}
 use Rattle.mj_prog.specs.StatusRows.{IsFileRow, IsRefusedFile, IsUnopened, LoadCause}
 use Rattle.mj_prog.specs.Statuses.{code_of, status_as}
-use Rattle.mj_prog.specs.declared.halt.StoreFault.{StoreFault}
 use Rattle.mj_prog.specs.declared.halt.StoreFault.TheVariants as stores
-use Rattle.mj_prog.specs.declared.status.Status.{Status}
 use Rattle.mj_prog.specs.declared.status.Status.TheVariants as statuses
 
 pub same-code : (s : GenStatus) → gen_code s ≡ code_of (status_as s)

@@ -1,10 +1,9 @@
-use Rattle.std.proofs.Common.{◌≡◌, ℕ, sym, ap, subst, ◌∙◌}
+use Rattle.std.proofs.Common.{ℕ, sym, ap, subst, ◌∙◌}
 use Rattle.mj_gen.specs.Generating.{Generates}
 use Rattle.mj_words.specs.SinkCounts.{counted}
 use Rattle.mj_prog.specs.StatusRows.{IsFileRow, IsUnopened, LoadCause}
 use Rattle.mj_prog.specs.Statuses.{code_of}
 use Rattle.mj_prog.specs.declared.status.Status.{Status}
-use Rattle.mj_prog.specs.declared.status.Status.TheVariants as statuses
 use Rattle.mj_prog.proofs.LoadLaws.{load-cause, load-file, load-stored, load-unopened, same-code}
 use Rattle.mj_prog.proofs.top_call.run_load.Goals as goal
 

@@ -1,4 +1,5 @@
-use Rattle.std.proofs.Common.{map, string_bytes, ap, inl, inr, sym, ◌∙◌, ⊎_elim}
+use Rattle.std.proofs.Common.{◌≡◌, ℕ, IfSome, map, string_bytes, ap, inl, inr, subst, sym, ◌∙◌, ⊎_elim}
+use Rattle.mj_gen.specs.Generating.{Generates}
 use Rattle.mj_prog.specs.Running.{fault_counts}
 use Rattle.mj_words.specs.SinkCounts.{counted}
 use Rattle.mj_prog.specs.StatusRows.{IsRow}
@@ -110,3 +111,10 @@ returns-in-Some-Audit-clause-statuses g c = audits-status _ _ _ _ _ _ _ _ c.audi
 
 pub returns-in-Some-Audit-clause-alone : goal.returns-in-Some-Audit-clause-alone
 returns-in-Some-Audit-clause-alone g c = λ _. alone-untouched (g.D.Disk.time c.args.disk.now) (g.D.Disk.told c.args.disk.now) (g.met.D.Disk.in_time c.args.disk.now)
+
+-- ---- a load
+
+pub returns-in-None-clause-gens : goal.returns-in-None-clause-gens
+returns-in-None-clause-gens g c =
+    subst (λ (number : ℕ). IfSome (load_in (map string_bytes c.args.words.now)) (λ load. (c.run_command.new.src ≡ c.args.src.now) × Generates g.D.Disk load.requests load.stored c.args.disk.now c.run_command.new.disk (g.K.Sink.written c.args.out.now) (g.K.Sink.written c.run_command.new.out) (counted (g.K.Sink.faults c.args.out.now) (g.K.Sink.wants c.args.out.now)) (counted (g.K.Sink.faults c.run_command.new.out) (g.K.Sink.wants c.run_command.new.out)) number))
+    (sym c.code.ensures) c.run_command.ensures.gens
