@@ -39,7 +39,7 @@ fn put_line(text: &mut Vec<u8>, line: &str) -> Result<(), AllocError> {
 fn edited(alloc: Global, transcript: &str, edit: Edit) -> Result<Vec<u8>, Fail> {
     let mut text = Vec::new(alloc);
     let mut number = 0_u64;
-    let mut before = "";
+    let mut held_back = Vec::new(alloc);
     for line in transcript.split('\n') {
         number = number.saturating_add(1);
         match edit {
@@ -48,14 +48,13 @@ fn edited(alloc: Global, transcript: &str, edit: Edit) -> Result<Vec<u8>, Fail> 
                 put_line(&mut text, line)?;
                 put_line(&mut text, line)?;
             }
-            Exchanged(at) if at == number => {}
+            Exchanged(at) if at == number => put_line(&mut held_back, line)?,
             Exchanged(at) if at.saturating_add(1) == number => {
                 put_line(&mut text, line)?;
-                put_line(&mut text, before)?;
+                text.extend_from_slice(held_back.as_slice())?;
             }
             _ => put_line(&mut text, line)?,
         }
-        before = line;
     }
     Ok(text)
 }
