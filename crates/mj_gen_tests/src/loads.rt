@@ -1,6 +1,7 @@
-use mj_base::{MemorySink, Octets};
+use mj_base::{Event, MemorySink, Note, Octets};
 use mj_disk::MemoryDisk;
-use mj_gen::{code, generate, the_generated_load};
+use mj_gen::{GenPorts, code, generate, the_generated_load};
+use mj_serve::Ports;
 use std::alloc::Global;
 use std::test::Fail;
 
@@ -135,6 +136,16 @@ fn an_act_that_fails_ends_the_run(rt: HostRuntime) -> Result<(), Fail> {
         }
     }
     assert!(rt; ended > 5 && ended < 40);
+    Ok(())
+}
+
+#[test]
+fn the_end_is_given_behind_an_act_that_failed(rt: HostRuntime) -> Result<(), Fail> {
+    let mut ports = GenPorts::new(rt.alloc(), 1, true);
+    ports.note(Note::Again(0, false));
+    assert!(rt; matches!(ports.next()?, Event::Open(0)));
+    ports.note(Note::Shut(0));
+    assert!(rt; matches!(ports.next()?, Event::Stop));
     Ok(())
 }
 
