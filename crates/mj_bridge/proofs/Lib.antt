@@ -1,0 +1,4 @@
+mod WorkerTurns
+mod SightLemmas
+mod FreeLemmas
+mod Rows

@@ -1,0 +1,3 @@
+pub mod BridgeRules
+pub mod BridgeRows
+pub mod BridgeSights
