@@ -1,0 +1,4 @@
+pub mod Notes
+pub mod SubmitRules
+pub mod WorkedNotes
+pub mod WorkedSubmissions

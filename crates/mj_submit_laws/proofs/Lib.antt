@@ -1,0 +1,4 @@
+mod SaidLemmas
+mod SubmitLemmas
+mod BreakLemmas
+mod CloseLemmas
