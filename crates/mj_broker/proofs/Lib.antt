@@ -1,3 +1,5 @@
+pub mod KeyedLemmas
+pub mod BeginningLemmas
 pub mod WireLemmas
 pub mod Lifting
 pub mod SettleLemmas

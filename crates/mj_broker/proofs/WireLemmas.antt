@@ -18,8 +18,8 @@ use Rattle.mj_machine.specs.Connections.{connection_of}
 use Rattle.mj_machine.specs.EventStep.{fed, longer, stream_of}
 use Rattle.mj_machine.proofs.ConnectionLemmas.{agrees, differs, equal}
 use Rattle.mj_machine.proofs.StreamLemmas.{fed-other, fed-same}
-use Rattle.mj_routing.specs.Keyed.{IsPlaceIn}
-use Rattle.mj_routing.proofs.KeyedLemmas.{place-in}
+use Rattle.mj_broker.specs.Keyed.{IsPlaceIn}
+use Rattle.mj_broker.proofs.KeyedLemmas.{place-in}
 use Rattle.mj_broker.specs.declared.wires.Link.{Link}
 use Rattle.mj_broker.specs.Wires.{AreFresh, AreLimited, IsLinkAt, MayBeFed, SameLimits, SameNumbers, WireStands, WiresStand, kept_links, rewired, stream_found, wire_of}
 

@@ -1,3 +1,4 @@
+pub mod Keyed
 pub mod Wires
 pub mod Acting
 pub mod Bodies

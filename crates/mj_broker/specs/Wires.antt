@@ -8,7 +8,7 @@ use Rattle.mj_wire.specs.WireState.{StandsFor}
 use Rattle.mj_machine.specs.declared.connection.Connection.{Connection}
 use Rattle.mj_machine.specs.MachineState.{Stream}
 use Rattle.mj_machine.specs.Connections.{connection_of}
-use Rattle.mj_routing.specs.Keyed.{changed_by}
+use Rattle.mj_broker.specs.Keyed.{changed_by}
 use Rattle.mj_broker.specs.declared.wires.Link.{Link}
 
 abbrev pub wire_of : ℕ → List Link → Option WireValue

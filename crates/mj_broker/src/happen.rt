@@ -69,6 +69,7 @@ fn greet<D: Disk>(
     outs: &mut Vec<Out>,
 ) -> Result<(), ActFault>
     requires few { parts.old.routing.next < 2 ^ 63 }
+    requires free { number_on lane parts.old.routing.connections ≡ None }
     requires sound { IsSound D.Disk parts.old.keeping.keeper disk.now }
     ensures did { OnOk result (Did D.Disk (seen parts.old) disk.now (seen parts.new) disk.now outs.old.items outs.new.items (routes (opens lane)) nowhere) }
     ensures sound { OnOk result (IsSound D.Disk parts.new.keeping.keeper disk.now) }
@@ -89,7 +90,8 @@ fn route_greeting(
     tickets: &Keeper,
     outs: &mut Vec<Out>,
 ) -> Result<(), NoMemory>
-    requires { routing.old.next < 2 ^ 63 }
+    requires few { routing.old.next < 2 ^ 63 }
+    requires free { number_on lane routing.old.connections ≡ None }
     ensures { OnOk result (Does routing.new outs.old.items outs.new.items (opens lane (told_on tickets.now.shelf) routing.old)) }
 {
     let number = routing.add(alloc, lane)?;
@@ -361,6 +363,7 @@ fn close_on<D: Disk>(parts: &mut Parts, disk: &D, lane: u32) -> Result<(), ActFa
     ensures idle { ClosesNothing (told_on parts.old.keeping.keeper.shelf) lane parts.old.routing → IsOk result }
     ensures settled { ClosesNothing (told_on parts.old.keeping.keeper.shelf) lane parts.old.routing → pair parts.old.routing.waiting parts.old.routing.queue ≡ None
         → OnOk result (pair parts.new.routing.waiting parts.new.routing.queue ≡ None) }
+    ensures free { OnOk result (number_on lane parts.new.routing.connections ≡ None) }
     ensures keeping { parts.new.keeping ≡ parts.old.keeping }
 {
     let Some(number) = parts.routing.number_on(lane) else {

@@ -22,7 +22,8 @@ use Rattle.mj_machine.specs.Connections.{connection_of}
 use Rattle.mj_machine.specs.TickStep.{all_beat, beats, deadline_of, due_numbers, has_passed, is_due, is_unspoken, numbers, silent_numbers}
 use Rattle.mj_machine.proofs.ConnectionLemmas.{agrees, differs}
 use Rattle.mj_queue.specs.HallState.{HallState}
-use Rattle.mj_routing.specs.RoutingState.{AllAbove, AreKept, AreRising, Does, seen}
+use Rattle.mj_routing.specs.Lanes.{AllAbove, Rise}
+use Rattle.mj_routing.specs.RoutingState.{AreKept, Does, seen}
 use Rattle.mj_routing.specs.Deadlines.{LeasesStand, deadline_at, deadline_on, kept}
 
 -- ---- the deadlines of a list of connections, as entries
@@ -57,10 +58,10 @@ sorted-entry : (n : ℕ) (deadline : Option ℕ) (rest : List (ℕ × ℕ)) → 
 sorted-entry n None rest above is = is
 sorted-entry n (Some deadline) rest above is = both (below_all nat_cmp n rest) (is_sorted nat_cmp rest) above is
 
-sorted-entries : (limits : Limits) (held : List Held) (next : ℕ) (cs : List Connection) → AreRising next cs → T (is_sorted nat_cmp (entries_of limits held cs))
-sorted-entries limits held next [] rising = tt
-sorted-entries limits held next (c ∷ cs) rising =
-    sorted-entry c.number (deadline_of limits held c.number c.role) (entries_of limits held cs) (above-entries limits held c.number cs rising.1) (sorted-entries limits held next cs rising.2)
+sorted-entries : (limits : Limits) (held : List Held) (cs : List Connection) → Rise cs → T (is_sorted nat_cmp (entries_of limits held cs))
+sorted-entries limits held [] rise = tt
+sorted-entries limits held (c ∷ cs) rise =
+    sorted-entry c.number (deadline_of limits held c.number c.role) (entries_of limits held cs) (above-entries limits held c.number cs rise.0) (sorted-entries limits held cs rise.1)
 
 -- ---- what is found in them
 
@@ -93,13 +94,13 @@ found-some limits held c cs q deadline some rest =
         subst (λ (k : ℕ). Some (kept deadline) ≡ option_map kept (deadline_of limits held k c.role)) same (ap (option_map kept) (sym some))
     by false e = rest
 
-found : (limits : Limits) (held : List Held) (next : ℕ) (cs : List Connection) (q : ℕ) → AreRising next cs → find nat_cmp q (entries_of limits held cs) ≡ option_map kept (deadline_on limits cs held q)
-found limits held next [] q rising = refl
-found limits held next (c ∷ cs) q rising = by (deadline_of limits held c.number c.role) refl (found limits held next cs q rising.2)
+found : (limits : Limits) (held : List Held) (cs : List Connection) (q : ℕ) → Rise cs → find nat_cmp q (entries_of limits held cs) ≡ option_map kept (deadline_on limits cs held q)
+found limits held [] q rise = refl
+found limits held (c ∷ cs) q rise = by (deadline_of limits held c.number c.role) refl (found limits held cs q rise.1)
   where
     by : (d : Option ℕ) → deadline_of limits held c.number c.role ≡ d → find nat_cmp q (entries_of limits held cs) ≡ option_map kept (deadline_on limits cs held q)
         → find nat_cmp q (entry c.number d (entries_of limits held cs)) ≡ option_map kept (deadline_on limits (c ∷ cs) held q)
-    by None e rest = rest ∙ ap (option_map kept) (found-none limits held c cs q rising.1 e)
+    by None e rest = rest ∙ ap (option_map kept) (found-none limits held c cs q rise.0 e)
     by (Some deadline) e rest = found-some limits held c cs q deadline e rest
 
 -- ---- those that are due
@@ -123,11 +124,11 @@ due-entries s small [] = refl
 due-entries s small (c ∷ cs) =
     due-entry s.now c.number small (deadline_of s.limits s.held c.number c.role) (entries_of s.limits s.held cs) c (filter (is_due s) cs) refl (due-entries s small cs)
 
-pub due-is : (s : State) (leases : FinMap nat_cmp ℕ) → s.now ≤ 1000000000000000 → AreRising s.next s.connections → LeasesStand s.limits s.connections s.held leases → due_of s.now leases ≡ due_numbers s
-due-is s leases small rising stands =
+pub due-is : (s : State) (leases : FinMap nat_cmp ℕ) → s.now ≤ 1000000000000000 → Rise s.connections → LeasesStand s.limits s.connections s.held leases → due_of s.now leases ≡ due_numbers s
+due-is s leases small rise stands =
     let same : leases_by.entries leases ≡ entries_of s.limits s.held s.connections =
-    same_entries nat_cmp nat_cmp_total (λ x y e. tied x y e) (leases_by.entries leases) (entries_of s.limits s.held s.connections) (entries_sorted leases) (sorted-entries s.limits s.held s.next s.connections rising)
-    (λ q. sym (get-entries leases q) ∙ stands q ∙ sym (found s.limits s.held s.next s.connections q rising)) in
+    same_entries nat_cmp nat_cmp_total (λ x y e. tied x y e) (leases_by.entries leases) (entries_of s.limits s.held s.connections) (entries_sorted leases) (sorted-entries s.limits s.held s.connections rise)
+    (λ q. sym (get-entries leases q) ∙ stands q ∙ sym (found s.limits s.held s.connections q rise)) in
     ap (λ (es : List (ℕ × ℕ)). map (λ l. l.0) (filter (λ l. nat_le l.1 s.now) es)) same ∙ due-entries s small s.connections
   where
     tied : (x y : ℕ) → nat_cmp x y ≡ Equal → x ≡ y
@@ -137,7 +138,7 @@ due-is s leases small rising stands =
 pub due-seen : (limits : Limits) (moment next : ℕ) (cs : List Connection) (hall : HallState) (held : List Held) (leases : FinMap nat_cmp ℕ) (s : State)
     → AreKept limits moment next cs hall held leases → seen limits moment next cs hall held ≡ s → due_of moment leases ≡ due_numbers s
 due-seen limits moment next cs hall held leases s k is =
-    subst (λ (t : State). due_of moment leases ≡ due_numbers t) is (due-is (seen limits moment next cs hall held) leases k.clock k.rising k.deadlines)
+    subst (λ (t : State). due_of moment leases ≡ due_numbers t) is (due-is (seen limits moment next cs hall held) leases k.clock k.rising.0 k.deadlines)
 
 -- where no number is due there is room for all
 pub room-for-none : (due numbers : List ℕ) (used room : ℕ) → due ≡ numbers → numbers ≡ [] → used ≤ room → used + length due ≤ room

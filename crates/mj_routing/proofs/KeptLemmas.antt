@@ -1,5 +1,5 @@
 -- What holds of the broker's lists between two calls holds after each change of them.
-use Rattle.std.proofs.Common.{◌≡◌, ◌≢◌, ◌⊎◌, ◌+◌, ◌<◌, ◌≤◌, ◌==◌, ◌||◌, ℕ, Bool, true, false, not, cond, List, [], ◌∷◌, ◌++◌, map, Option, None, Some, MatchOption, refl, sym, ap, subst, ◌∙◌, inl, inr, arith}
+use Rattle.std.proofs.Common.{◌≡◌, ◌≢◌, ◌⊎◌, ◌+◌, ◌≤◌, ◌==◌, ◌||◌, ℕ, Bool, true, false, not, cond, List, [], ◌∷◌, ◌++◌, map, Option, None, Some, MatchOption, refl, sym, ap, subst, ◌∙◌, inl, inr, arith}
 use Rattle.std.specs.Option.{option_map, option_or}
 use Rattle.std.specs.List.{list_any}
 use Rattle.std.specs.FinMap as leases_by
@@ -22,57 +22,18 @@ use Rattle.mj_machine.specs.declared.connection.Role.TheVariants.{Fresh, Client,
 use Rattle.mj_machine.specs.declared.held.Held.{Held}
 use Rattle.mj_machine.specs.Connections.{changed, connection_of, spoken_to, with_role}
 use Rattle.mj_machine.specs.EventStep.{delivered}
-use Rattle.mj_machine.specs.Leaving.{connections_without, held_without}
+use Rattle.mj_machine.specs.Leaving.{connections_without, held_by, held_without}
 use Rattle.mj_machine.specs.MessageStep.{busy_of}
 use Rattle.mj_machine.specs.Pairing.{held_by_pair, mark_set}
 use Rattle.mj_machine.specs.Sending.{sent}
 use Rattle.mj_machine.specs.TickStep.{deadline_of, is_holding}
 use Rattle.mj_machine.proofs.ConnectionLemmas.{Keeps, changed-other, changed-same, cut_off-other, cut_off-same, holding-append, holding-without-other}
-use Rattle.mj_routing.specs.RoutingState.{AllAbove, AreKept, AreRising}
+use Rattle.mj_routing.specs.RoutingState.{AreKept}
+use Rattle.mj_routing.specs.Holding.{IsOnceEach}
+use Rattle.mj_routing.specs.Lanes.{AreRising}
+use Rattle.mj_routing.proofs.HoldingLemmas.{free-waiting, once-left, once-none, once-taken, once-waits}
+use Rattle.mj_routing.proofs.LaneLemmas.{rising-added, rising-changed, rising-without}
 use Rattle.mj_routing.specs.Deadlines.{LeasesStand, SameBut, deadline_at, deadline_on, kept}
-
--- ---- numbers that rise
-
-above-changed : (m n : ℕ) (f : Connection → Connection) → Keeps f → (cs : List Connection) → AllAbove m cs → AllAbove m (changed n f cs)
-above-changed m n f keeps [] above = tt
-above-changed m n f keeps (c ∷ cs) above = by (c.number == n) (above-changed m n f keeps cs above.1)
-  where
-    by : (b : Bool) → AllAbove m (changed n f cs) → AllAbove m (cond {A = List Connection} b (f c ∷ cs) (c ∷ changed n f cs))
-    by true rest = (subst (λ (k : ℕ). m < k) (sym (keeps c)) above.0, above.1)
-    by false rest = (above.0, rest)
-
-rising-changed : (next n : ℕ) (f : Connection → Connection) → Keeps f → (cs : List Connection) → AreRising next cs → AreRising next (changed n f cs)
-rising-changed next n f keeps [] rising = tt
-rising-changed next n f keeps (c ∷ cs) rising = by (c.number == n) (rising-changed next n f keeps cs rising.2)
-  where
-    by : (b : Bool) → AreRising next (changed n f cs) → AreRising next (cond {A = List Connection} b (f c ∷ cs) (c ∷ changed n f cs))
-    by true rest = rw (keeps c) rising
-    by false rest = (rising.0, above-changed c.number n f keeps cs rising.1, rest)
-
-above-without : (m n : ℕ) (cs : List Connection) → AllAbove m cs → AllAbove m (connections_without n cs)
-above-without m n [] above = tt
-above-without m n (c ∷ cs) above = by (c.number == n) (above-without m n cs above.1)
-  where
-    by : (b : Bool) → AllAbove m (connections_without n cs) → AllAbove m (cond {A = List Connection} (not b) (c ∷ connections_without n cs) (connections_without n cs))
-    by true rest = rest
-    by false rest = (above.0, rest)
-
-rising-without : (next n : ℕ) (cs : List Connection) → AreRising next cs → AreRising next (connections_without n cs)
-rising-without next n [] rising = tt
-rising-without next n (c ∷ cs) rising = by (c.number == n) (rising-without next n cs rising.2)
-  where
-    by : (b : Bool) → AreRising next (connections_without n cs) → AreRising next (cond {A = List Connection} (not b) (c ∷ connections_without n cs) (connections_without n cs))
-    by true rest = rest
-    by false rest = (rising.0, above-without c.number n cs rising.1, rest)
-
-above-added : (m : ℕ) (c : Connection) (cs : List Connection) → m < c.number → AllAbove m cs → AllAbove m (cs ++ c ∷ [])
-above-added m c [] less above = (less, tt)
-above-added m c (d ∷ cs) less above = (above.0, above-added m c cs less above.1)
-
-rising-added : (next : ℕ) (c : Connection) (cs : List Connection) → c.number ≡ next → AreRising next cs → AreRising (next + 1) (cs ++ c ∷ [])
-rising-added next c [] is rising = (omega (arith, is), tt, tt)
-rising-added next c (d ∷ cs) is rising =
-    let below : d.number < next = rising.0 in (omega (arith, below), above-added d.number c cs (omega (arith, below, is)) rising.1, rising-added next c cs is rising.2)
 
 -- ---- busy workers
 
@@ -95,6 +56,18 @@ pair-service waiting requests p e =
     let is : IsPair waiting requests p = subst (λ (o : Option Pair). MatchOption o (list_any (has_waiter waiting) requests ≡ false) (IsPair waiting requests)) e (pair-is-first waiting requests) in
     let same : p.waiter.service ≡ p.request.service = (bytes_eq-Decides p.waiter.service p.request.service).0 is.found.passes in
     ap (λ (service : List ℕ). record { worker = p.waiter.worker; service = service }) same
+
+-- the worker of a pair holds nothing
+pub free-pair : (waiting : List Waiter) (requests : List Request) (held : List Held) (p : Pair) → pair waiting requests ≡ Some p → IsOnceEach waiting held → held_by p.waiter.worker held ≡ None
+free-pair waiting requests held p e once =
+    let is : IsPair waiting requests p = subst (λ (o : Option Pair). MatchOption o (list_any (has_waiter waiting) requests ≡ false) (IsPair waiting requests)) e (pair-is-first waiting requests) in
+    free-waiting is.found.before is.found.after p.waiter held (subst (λ (ws : List Waiter). IsOnceEach ws held) is.found.whole once)
+
+once-pair : (waiting : List Waiter) (requests : List Request) (held : List Held) (p : Pair) → pair waiting requests ≡ Some p → IsOnceEach waiting held → IsOnceEach p.waiting (held ++ held_by_pair p ∷ [])
+once-pair waiting requests held p e once =
+    let is : IsPair waiting requests p = subst (λ (o : Option Pair). MatchOption o (list_any (has_waiter waiting) requests ≡ false) (IsPair waiting requests)) e (pair-is-first waiting requests) in
+    subst (λ (ws : List Waiter). IsOnceEach ws (held ++ held_by_pair p ∷ [])) (sym is.found.rest_is)
+    (once-taken is.found.before is.found.after p.waiter held (held_by_pair p) refl (subst (λ (ws : List Waiter). IsOnceEach ws held) is.found.whole once))
 
 -- ---- deadlines
 
@@ -164,12 +137,13 @@ spoken-still limits held q now Gone = refl
 
 -- ---- the whole
 
-pub kept-none : (limits : Limits) (cs : List Connection) (hall : HallState) (held : List Held) (leases : FinMap nat_cmp ℕ) → hall.limits ≡ limits → hall.busy ≡ [] → cs ≡ [] → held ≡ [] → leases ≡ leases_by.empty
+pub kept-none : (limits : Limits) (cs : List Connection) (hall : HallState) (held : List Held) (leases : FinMap nat_cmp ℕ) → hall.limits ≡ limits → hall.waiting ≡ [] → hall.busy ≡ [] → cs ≡ [] → held ≡ [] → leases ≡ leases_by.empty
     → AreKept limits 0 1 cs hall held leases
-kept-none limits cs hall held leases limited busy cs_is held_is leases_is = rw cs_is (rw held_is (rw leases_is (record {
+kept-none limits cs hall held leases limited waiting busy cs_is held_is leases_is = rw cs_is (rw held_is (rw leases_is (record {
   limited = limited;
   busy = busy;
-  rising = tt;
+  once = rw waiting once-none;
+  rising = (tt, tt);
   deadlines = λ q. get-empty nat_cmp q;
   clock = omega arith;
 })))
@@ -194,6 +168,9 @@ LeftHall n hall worker new =
 left-limits : (n : ℕ) (hall worker new : HallState) → LeftHall n hall worker new → new.limits ≡ hall.limits
 left-limits n hall worker new is = ap (λ (h : HallState). h.limits) is.1 ∙ ap (λ (h : HallState). h.limits) is.0
 
+left-waiting : (n : ℕ) (hall worker new : HallState) → LeftHall n hall worker new → new.waiting ≡ without_worker n hall.waiting
+left-waiting n hall worker new is = ap (λ (h : HallState). h.waiting) is.1 ∙ ap (λ (h : HallState). h.waiting) is.0
+
 left-busy : (n : ℕ) (hall worker new : HallState) → LeftHall n hall worker new → new.busy ≡ without_worker n hall.busy
 left-busy n hall worker new is = ap (λ (h : HallState). h.busy) is.1 ∙ ap (λ (h : HallState). h.busy) is.0
 
@@ -205,6 +182,7 @@ module _ (limits : Limits) (moment next : ℕ) (cs : List Connection) (hall : Ha
   kept-left cs_new worker new held_new leases_new n role none left held_is cs_is forgets = rw held_is (rw cs_is (record {
     limited = left-limits n hall worker new left ∙ k.limited;
     busy = left-busy n hall worker new left ∙ ap (without_worker n) k.busy ∙ sym (busy-without n held);
+    once = rw (left-waiting n hall worker new left) (once-left n hall.waiting held k.once);
     rising = rising-changed next n (with_role role) (λ c. refl) cs k.rising;
     deadlines = forgets limits cs (changed n (with_role role) cs) held (held_without n held) k.deadlines
         (same-then limits n cs cs (changed n (with_role role) cs) held (held_without n held) (held_without n held) (same-held limits n cs held) (same-changed limits n (with_role role) (λ c. refl) cs (held_without n held)))
@@ -219,6 +197,7 @@ module _ (limits : Limits) (moment next : ℕ) (cs : List Connection) (hall : Ha
   kept-removed cs_new worker new held_new leases_new n left held_is cs_is forgets = rw held_is (rw cs_is (record {
     limited = left-limits n hall worker new left ∙ k.limited;
     busy = left-busy n hall worker new left ∙ ap (without_worker n) k.busy ∙ sym (busy-without n held);
+    once = rw (left-waiting n hall worker new left) (once-left n hall.waiting held k.once);
     rising = rising-without next n cs k.rising;
     deadlines = forgets limits cs (connections_without n cs) held (held_without n held) k.deadlines
         (same-then limits n cs cs (connections_without n cs) held (held_without n held) (held_without n held) (same-held limits n cs held) (same-cut_off limits n cs (held_without n held)))
@@ -232,6 +211,7 @@ module _ (limits : Limits) (moment next : ℕ) (cs : List Connection) (hall : Ha
   kept-role cs_new leases_new n role none cs_is forgets = rw cs_is (record {
     limited = k.limited;
     busy = k.busy;
+    once = k.once;
     rising = rising-changed next n (with_role role) (λ c. refl) cs k.rising;
     deadlines = forgets limits cs (changed n (with_role role) cs) held held k.deadlines (same-changed limits n (with_role role) (λ c. refl) cs held)
         (ap (deadline_at limits held n) (changed-same n (with_role role) (λ c. refl) cs) ∙ none-role limits n role held (none held) (connection_of n cs));
@@ -239,57 +219,61 @@ module _ (limits : Limits) (moment next : ℕ) (cs : List Connection) (hall : Ha
   })
 
   -- its lease began anew
-  pub kept-renewed : (cs_new slice : List Connection) (new : HallState) (held_new held_slice : List Held) (reserved leases_new : FinMap nat_cmp ℕ) (n : ℕ)
-      → new.limits ≡ hall.limits → new.busy ≡ map busy_of held_new → AreRising next cs_new → SameBut n limits cs held cs_new held_new
-      → reserved ≡ leases → slice ≡ cs_new → held_slice ≡ held_new → Renews n limits reserved slice held_slice leases_new → AreKept limits moment next cs_new new held_new leases_new
-  kept-renewed cs_new slice new held_new held_slice reserved leases_new n limited busy rising same reserved_is slice_is held_slice_is renews = record {
+  pub kept-renewed : (cs_new : List Connection) (new : HallState) (held_new : List Held) (reserved leases_new : FinMap nat_cmp ℕ) (n : ℕ)
+      → new.limits ≡ hall.limits → new.busy ≡ map busy_of held_new → IsOnceEach new.waiting held_new → AreRising next cs_new → SameBut n limits cs held cs_new held_new
+      → reserved ≡ leases → Renews n limits reserved cs_new held_new leases_new → AreKept limits moment next cs_new new held_new leases_new
+  kept-renewed cs_new new held_new reserved leases_new n limited busy once rising same reserved_is renews = record {
     limited = limited ∙ k.limited;
     busy = busy;
+    once = once;
     rising = rising;
-    deadlines = rw (sym held_slice_is) (rw (sym slice_is) (renews cs held (rw reserved_is k.deadlines) (rw held_slice_is (rw slice_is same))));
+    deadlines = renews cs held (rw reserved_is k.deadlines) same;
     clock = k.clock;
   }
 
-  pub kept-marked : (cs_new slice : List Connection) (held_slice : List Held) (reserved leases_new : FinMap nat_cmp ℕ) (n : ℕ) → cs_new ≡ changed n (mark_set moment) cs
-      → reserved ≡ leases → slice ≡ cs_new → held_slice ≡ held → Renews n limits reserved slice held_slice leases_new → AreKept limits moment next cs_new hall held leases_new
-  kept-marked cs_new slice held_slice reserved leases_new n cs_is reserved_is slice_is held_slice_is renews =
-      kept-renewed cs_new slice hall held held_slice reserved leases_new n refl k.busy (rw cs_is (rising-changed next n (mark_set moment) (λ c. refl) cs k.rising))
-      (rw cs_is (same-changed limits n (mark_set moment) (λ c. refl) cs held)) reserved_is slice_is held_slice_is renews
+  pub kept-marked : (cs_new : List Connection) (reserved leases_new : FinMap nat_cmp ℕ) (n : ℕ) → cs_new ≡ changed n (mark_set moment) cs
+      → reserved ≡ leases → Renews n limits reserved cs_new held leases_new → AreKept limits moment next cs_new hall held leases_new
+  kept-marked cs_new reserved leases_new n cs_is reserved_is renews =
+      kept-renewed cs_new hall held reserved leases_new n refl k.busy k.once (rw cs_is (rising-changed next n (mark_set moment) (λ c. refl) cs k.rising))
+      (rw cs_is (same-changed limits n (mark_set moment) (λ c. refl) cs held)) reserved_is renews
 
-  pub kept-waiting : (slice : List Connection) (new : HallState) (held_new held_slice : List Held) (reserved leases_new : FinMap nat_cmp ℕ) (n : ℕ) (service : List ℕ)
-      → new ≡ waits n service hall → held_new ≡ held_without n held → reserved ≡ leases → slice ≡ cs → held_slice ≡ held_new → Renews n limits reserved slice held_slice leases_new
+  pub kept-waiting : (new : HallState) (held_new : List Held) (reserved leases_new : FinMap nat_cmp ℕ) (n : ℕ) (service : List ℕ)
+      → new ≡ waits n service hall → held_new ≡ held_without n held → reserved ≡ leases → Renews n limits reserved cs held_new leases_new
       → AreKept limits moment next cs new held_new leases_new
-  kept-waiting slice new held_new held_slice reserved leases_new n service new_is held_is reserved_is slice_is held_slice_is renews =
-      kept-renewed cs slice new held_new held_slice reserved leases_new n (ap (λ (h : HallState). h.limits) new_is)
+  kept-waiting new held_new reserved leases_new n service new_is held_is reserved_is renews =
+      kept-renewed cs new held_new reserved leases_new n (ap (λ (h : HallState). h.limits) new_is)
       (ap (λ (h : HallState). h.busy) new_is ∙ ap (without_worker n) k.busy ∙ sym (busy-without n held) ∙ ap (map busy_of) (sym held_is))
+      (rw held_is (rw (ap (λ (h : HallState). h.waiting) new_is) (once-waits n service hall.waiting held k.once)))
       k.rising
-      (rw held_is (same-held limits n cs held)) reserved_is slice_is held_slice_is renews
+      (rw held_is (same-held limits n cs held)) reserved_is renews
 
   -- a worker registered
-  pub kept-registered : (cs_new slice : List Connection) (new : HallState) (held_new held_slice : List Held) (reserved leases_new : FinMap nat_cmp ℕ) (n : ℕ) (service : List ℕ) (role : Role)
+  pub kept-registered : (cs_new : List Connection) (new : HallState) (held_new : List Held) (reserved leases_new : FinMap nat_cmp ℕ) (n : ℕ) (service : List ℕ) (role : Role)
       → new ≡ waits n service hall → held_new ≡ held_without n held → cs_new ≡ changed n (with_role role) cs
-      → reserved ≡ leases → slice ≡ cs_new → held_slice ≡ held_new → Renews n limits reserved slice held_slice leases_new
+      → reserved ≡ leases → Renews n limits reserved cs_new held_new leases_new
       → AreKept limits moment next cs_new new held_new leases_new
-  kept-registered cs_new slice new held_new held_slice reserved leases_new n service role new_is held_is cs_is reserved_is slice_is held_slice_is renews =
-      kept-renewed cs_new slice new held_new held_slice reserved leases_new n (ap (λ (h : HallState). h.limits) new_is)
+  kept-registered cs_new new held_new reserved leases_new n service role new_is held_is cs_is reserved_is renews =
+      kept-renewed cs_new new held_new reserved leases_new n (ap (λ (h : HallState). h.limits) new_is)
       (ap (λ (h : HallState). h.busy) new_is ∙ ap (without_worker n) k.busy ∙ sym (busy-without n held) ∙ ap (map busy_of) (sym held_is))
+      (rw held_is (rw (ap (λ (h : HallState). h.waiting) new_is) (once-waits n service hall.waiting held k.once)))
       (rw cs_is (rising-changed next n (with_role role) (λ c. refl) cs k.rising))
       (rw held_is (rw cs_is (same-then limits n cs cs (changed n (with_role role) cs) held (held_without n held) (held_without n held) (same-held limits n cs held) (same-changed limits n (with_role role) (λ c. refl) cs (held_without n held)))))
-      reserved_is slice_is held_slice_is renews
+      reserved_is renews
 
   -- a request was handed over to its worker
-  pub kept-handed : (cs_new slice : List Connection) (new : HallState) (held_new held_slice : List Held) (reserved leases_new : FinMap nat_cmp ℕ) (p : Pair) (n : ℕ)
+  pub kept-handed : (cs_new : List Connection) (new : HallState) (held_new : List Held) (reserved leases_new : FinMap nat_cmp ℕ) (p : Pair) (n : ℕ)
       → n ≡ p.waiter.worker → pair hall.waiting hall.requests ≡ Some p → new ≡ taken p hall → held_new ≡ held ++ held_by_pair p ∷ [] → cs_new ≡ changed n (mark_set moment) cs
-      → reserved ≡ leases → slice ≡ cs_new → held_slice ≡ held_new → Renews n limits reserved slice held_slice leases_new
+      → reserved ≡ leases → Renews n limits reserved cs_new held_new leases_new
       → AreKept limits moment next cs_new new held_new leases_new
-  kept-handed cs_new slice new held_new held_slice reserved leases_new p n n_is pair_is new_is held_is cs_is reserved_is slice_is held_slice_is renews =
-      kept-renewed cs_new slice new held_new held_slice reserved leases_new n (ap (λ (h : HallState). h.limits) new_is)
+  kept-handed cs_new new held_new reserved leases_new p n n_is pair_is new_is held_is cs_is reserved_is renews =
+      kept-renewed cs_new new held_new reserved leases_new n (ap (λ (h : HallState). h.limits) new_is)
       (ap (λ (h : HallState). h.busy) new_is ∙ ap (λ (ws : List Waiter). ws ++ p.waiter ∷ []) k.busy ∙ ap (λ (w : Waiter). map busy_of held ++ w ∷ []) (pair-service hall.waiting hall.requests p pair_is)
       ∙ sym (busy-added held (held_by_pair p)) ∙ ap (map busy_of) (sym held_is))
+      (rw held_is (rw (ap (λ (h : HallState). h.waiting) new_is) (once-pair hall.waiting hall.requests held p pair_is k.once)))
       (rw cs_is (rising-changed next n (mark_set moment) (λ c. refl) cs k.rising))
       (rw held_is (rw cs_is (rw n_is (same-then limits p.waiter.worker cs cs (changed p.waiter.worker (mark_set moment) cs) held (held ++ held_by_pair p ∷ []) (held ++ held_by_pair p ∷ [])
       (same-added limits cs held (held_by_pair p)) (same-changed limits p.waiter.worker (mark_set moment) (λ c. refl) cs (held ++ held_by_pair p ∷ []))))))
-      reserved_is slice_is held_slice_is renews
+      reserved_is renews
 
   -- deadlines stayed
   kept-still : (n : ℕ) (f : Connection → Connection) (cs_new : List Connection) → Keeps f → ((q : ℕ) (c : Connection) → deadline_of limits held q (f c).role ≡ deadline_of limits held q c.role)
@@ -297,6 +281,7 @@ module _ (limits : Limits) (moment next : ℕ) (cs : List Connection) (hall : Ha
   kept-still n f cs_new keeps still cs_is = rw cs_is (record {
     limited = k.limited;
     busy = k.busy;
+    once = k.once;
     rising = rising-changed next n f keeps cs k.rising;
     deadlines = λ q. k.deadlines q ∙ ap (option_map kept) (sym (unmoved limits held n f keeps still cs q));
     clock = k.clock;
@@ -313,6 +298,7 @@ module _ (limits : Limits) (moment next : ℕ) (cs : List Connection) (hall : Ha
   kept-added c cs_new number_is role_is cs_is = rw cs_is (record {
     limited = k.limited;
     busy = k.busy;
+    once = k.once;
     rising = rising-added next c cs number_is k.rising;
     deadlines = λ q. k.deadlines q ∙ ap (option_map kept) (sym (ap (deadline_at limits held q) (find-append (λ d. d.number == q) cs (c ∷ [])) ∙ at q (connection_of q cs) (c.number == q)));
     clock = k.clock;
@@ -328,8 +314,8 @@ module _ (limits : Limits) (moment next : ℕ) (cs : List Connection) (hall : Ha
 
   -- time went on
   pub kept-moment : (now : ℕ) → now ≤ 1000000000000000 → AreKept limits now next cs hall held leases
-  kept-moment now small = record { limited = k.limited; busy = k.busy; rising = k.rising; deadlines = k.deadlines; clock = small }
+  kept-moment now small = record { limited = k.limited; busy = k.busy; once = k.once; rising = k.rising; deadlines = k.deadlines; clock = small }
 
   -- what is queued alone changed
-  pub kept-queue : (new : HallState) → new.limits ≡ hall.limits → new.busy ≡ hall.busy → AreKept limits moment next cs new held leases
-  kept-queue new limits_is busy_is = record { limited = limits_is ∙ k.limited; busy = busy_is ∙ k.busy; rising = k.rising; deadlines = k.deadlines; clock = k.clock }
+  pub kept-queue : (new : HallState) → new.limits ≡ hall.limits → new.waiting ≡ hall.waiting → new.busy ≡ hall.busy → AreKept limits moment next cs new held leases
+  kept-queue new limits_is waiting_is busy_is = record { limited = limits_is ∙ k.limited; busy = busy_is ∙ k.busy; once = rw waiting_is k.once; rising = k.rising; deadlines = k.deadlines; clock = k.clock }

@@ -1,5 +1,6 @@
 pub mod ReturningLemmas
-pub mod KeyedLemmas
+pub mod LaneLemmas
+pub mod HoldingLemmas
 pub mod PlaceLemmas
 pub mod DeadlineLemmas
 pub mod KeptLemmas

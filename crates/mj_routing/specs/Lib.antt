@@ -1,4 +1,5 @@
-pub mod Keyed
+pub mod Lanes
+pub mod Holding
 pub mod Places
 pub mod Deadlines
 pub mod Returning

@@ -1,10 +1,11 @@
 -- A connection's place in a list, and what is looked up there.
-use Rattle.std.specs.Prelude.{ℕ, ◌≡◌, ◌+◌, ◌<◌, ◌^◌, ⊤, Bool, true, false, List, sum, slice_get, slice_set, Option, None, Some}
+use Rattle.std.specs.Prelude.{ℕ, ◌≡◌, ◌+◌, ◌<◌, ◌^◌, ⊤, Bool, true, false, List, sum, slice_get, slice_set, remove, Option, None, Some}
 use Rattle.mj_base.specs.declared.limits.Limits.{Limits}
 use Rattle.mj_machine.specs.declared.connection.Connection.{Connection}
 use Rattle.mj_machine.specs.declared.connection.Role.{Role}
 use Rattle.mj_machine.specs.declared.connection.Role.TheVariants.{Fresh, Client, Worker, Gone}
 use Rattle.mj_machine.specs.Connections.{changed, connection_of}
+use Rattle.mj_machine.specs.Leaving.{connections_without}
 use Rattle.mj_machine.specs.Sending.{is_slow}
 use Rattle.mj_machine.specs.TickStep.{is_unspoken, numbers}
 use Rattle.std.specs.List.{filter}
@@ -16,10 +17,12 @@ pub record IsPlaceOf (n : ℕ) (connections : List Connection) (at : ℕ) (c : C
   pub here : slice_get connections at ≡ Some c
   pub found : connection_of n connections ≡ Some c
   pub changed_is : (f : Connection → Connection) → changed n f connections ≡ slice_set connections at (f c)
+  pub without_is : connections_without n connections ≡ remove connections at
 
 pub record IsNowhere (n : ℕ) (connections : List Connection) : Type 0 where
   pub none : connection_of n connections ≡ None
   pub same : (f : Connection → Connection) → changed n f connections ≡ connections
+  pub whole : connections_without n connections ≡ connections
 
 -- the place of the connection of this number, or None where there is none
 abbrev pub IsPlace : ℕ → List Connection → Option ℕ → Type 0

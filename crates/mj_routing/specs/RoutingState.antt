@@ -1,5 +1,5 @@
 -- What the broker's lists stand for, and what holds of them between two calls.
-use Rattle.std.specs.Prelude.{ℕ, ◌≡◌, ◌<◌, ◌≤◌, ⊤, List, [], ◌∷◌, ◌++◌, map, Option, None, Some}
+use Rattle.std.specs.Prelude.{ℕ, ◌≡◌, ◌≤◌, List, [], ◌++◌, map, Option, None, Some}
 use Rattle.std.specs.FinMap.{FinMap}
 use Rattle.std.specs.Ordering.{nat_cmp}
 use Rattle.mj_base.specs.declared.event.Out.{Out}
@@ -15,6 +15,8 @@ use Rattle.mj_machine.specs.Pairing.{handed}
 use Rattle.mj_machine.specs.MessageStep.{busy_of}
 use Rattle.mj_machine.specs.TickStep.{at_moment, due_numbers, silent_numbers}
 use Rattle.mj_routing.specs.Deadlines.{LeasesStand}
+use Rattle.mj_routing.specs.Holding.{IsOnceEach}
+use Rattle.mj_routing.specs.Lanes.{AreRising}
 use Rattle.mj_routing.specs.declared.routing.Handed.{Handed}
 
 -- the machine's state that these lists are
@@ -29,21 +31,12 @@ seen limits moment next connections hall held = record {
   queue = hall.requests;
 }
 
--- every later number is above this one
-abbrev pub AllAbove : ℕ → List Connection → Type 0
-AllAbove n [] = ⊤
-AllAbove n (c ∷ cs) = (n < c.number) × AllAbove n cs
-
--- the numbers rise, and are below the next one
-abbrev pub AreRising : ℕ → List Connection → Type 0
-AreRising next [] = ⊤
-AreRising next (c ∷ cs) = (c.number < next) × AllAbove c.number cs × AreRising next cs
-
--- the hall's busy workers are those that hold, the connections stand by rising number, and the table of deadlines
--- stands for the workers' marks
+-- the hall's busy workers are those that hold, and no worker waits or holds twice; the connections stand by rising
+-- number, below the next one; and the table of deadlines stands for the workers' marks
 pub record AreKept (limits : Limits) (moment next : ℕ) (connections : List Connection) (hall : HallState) (held : List Held) (leases : FinMap nat_cmp ℕ) : Type 0 where
   pub limited : hall.limits ≡ limits
   pub busy : hall.busy ≡ map busy_of held
+  pub once : IsOnceEach hall.waiting held
   pub rising : AreRising next connections
   pub deadlines : LeasesStand limits connections held leases
   pub clock : moment ≤ 1000000000000000

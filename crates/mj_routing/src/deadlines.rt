@@ -5,27 +5,29 @@ ghost use Rattle.mj_machine.specs.TickStep;
 ghost use Rattle.mj_machine.specs.declared.connection.Connection.{Connection as AConnection};
 ghost use Rattle.mj_machine.specs.declared.held.Held.{Held as AHeld};
 ghost use Rattle.mj_routing.specs.Deadlines.{LeasesStand, SameBut, deadline_on};
+ghost use Rattle.mj_routing.specs.Holding.{held_in};
 
-use crate::connections::mark_of;
+use crate::connections::Connections;
 use crate::held::is_holding;
 use crate::leases::Leases;
+use indexmap::IndexMap;
 use mj_base::Limits;
-use mj_machine::{Connection, Held};
+use mj_queue::Request;
 
 /// Sets the deadline of this number anew, after it alone has changed.
 pub fn renew(
     leases: &mut Leases,
     limits: &Limits,
-    connections: &[Connection],
-    held: &[Held],
+    connections: &Connections,
+    held: &IndexMap<u64, Request>,
     number: u64,
 )
     requires { 0 < leases.old.spare }
     ensures { (before : List AConnection) (held_before : List AHeld) → LeasesStand limits.now before held_before leases.old.leases
-        → SameBut number limits.now before held_before connections.now held.now
-        → LeasesStand limits.now connections.now held.now leases.new.leases }
+        → SameBut number limits.now before held_before connections.now (held_in held.now)
+        → LeasesStand limits.now connections.now (held_in held.now) leases.new.leases }
 {
-    match mark_of(connections, number) {
+    match connections.mark_of(number) {
         None => leases.remove(number),
         Some(mark) => leases.put(number, mark.saturating_add(lease_of(limits, held, number))),
     }
@@ -41,8 +43,8 @@ pub fn forget(leases: &mut Leases, number: u64)
 }
 
 /// How long the lease of this worker is.
-fn lease_of(limits: &Limits, held: &[Held], number: u64) -> u64
-    ensures { result ≡ TickStep.lease_of limits.now held.now number }
+fn lease_of(limits: &Limits, held: &IndexMap<u64, Request>, number: u64) -> u64
+    ensures { result ≡ TickStep.lease_of limits.now (held_in held.now) number }
 {
     if is_holding(held, number) {
         limits.busy_lease

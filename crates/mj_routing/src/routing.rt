@@ -1,15 +1,15 @@
-ghost use Rattle.std.specs.Prelude.{◌≡◌, ◌+◌, ◌++◌, ◌∷◌, [], ◌≤◌, ◌<◌, ◌^◌, vec_len, vec_capacity, is_some, option_map, true, None, Some, IsOk, OnOk, IfOk};
+ghost use Rattle.std.specs.Prelude.{◌≡◌, ◌+◌, ◌++◌, ◌∷◌, [], ◌≤◌, ◌<◌, ◌^◌, vec_len, vec_capacity, is_some, option_map, true, None, Some, IsOk, IfSome, OnOk, IfOk};
 ghost use Rattle.std.specs.List.{list_any};
 ghost use Rattle.mj_queue.specs.Offers.{offer_of};
 ghost use Rattle.mj_queue.specs.Settling.{Pair, pair, without_ticket};
 ghost use Rattle.mj_keeper.specs.Standing.{told_on};
 ghost use Rattle.mj_machine.specs.Acts.{quiet};
-ghost use Rattle.mj_machine.specs.Connections;
+ghost use Rattle.mj_machine.specs.Connections as machine;
 ghost use Rattle.mj_machine.specs.Connections.{connection_of};
 ghost use Rattle.mj_machine.specs.DiskActs.{clients_alone};
 ghost use Rattle.mj_machine.specs.EventStep.{opened, reports};
 ghost use Rattle.mj_machine.specs.Leaving;
-ghost use Rattle.mj_machine.specs.Leaving.{becomes, ends, goes, removed};
+ghost use Rattle.mj_machine.specs.Leaving.{becomes, connections_without, ends, goes, removed};
 ghost use Rattle.mj_machine.specs.MachineState.{start_state};
 ghost use Rattle.mj_machine.specs.MessageStep;
 ghost use Rattle.mj_machine.specs.MessageStep.{queues, registration};
@@ -18,20 +18,22 @@ ghost use Rattle.mj_machine.specs.Sending.{order_text, address, sends};
 ghost use Rattle.mj_machine.specs.StoreState.{ticket_request, waiting_tickets};
 ghost use Rattle.mj_machine.specs.TickStep.{at_moment, due_numbers, expires, is_unspoken, silent_numbers};
 ghost use Rattle.mj_routing.specs.RoutingState.{Does, Gives, HandsOver};
+ghost use Rattle.mj_routing.specs.Holding.{AreTicketsOf};
 ghost use Rattle.mj_routing.specs.Places.{standing_of};
 ghost use Rattle.mj_routing.specs.Returning.{BringsNothing, free_request, put_last};
 ghost use Rattle.mj_machine.specs.declared.connection.Role;
 ghost use Rattle.mj_worker_cmd.specs.declared.command.OrderAct.TheVariants as order;
 
-use crate::connections::{self, Standing, Verdict};
+use crate::connections::{Connections, Standing, Verdict};
 use crate::hall::Hall;
 use crate::leases::Leases;
 use crate::services::is_titanic;
 use crate::text::{address_of, order_octets, ticket_request};
 use crate::{deadlines, held};
+use indexmap::{IndexMap, IndexSet};
 use mj_base::{Frames, Limits, Name, NoMemory, Octets, Out, Reason};
 use mj_keeper::Keeper;
-use mj_machine::{Connection, Held, Lengths, Registration, Role, Voice};
+use mj_machine::{Registration, Role, Voice};
 use mj_queue::{AskFault, Offer, Origin, Request};
 use mj_store::Store;
 use mj_worker_cmd::OrderAct;
@@ -46,21 +48,23 @@ pub struct Routing {
     moment: u64,
     /// The next connection's number.
     next: u64,
-    connections: Vec<Connection>,
+    connections: Connections,
     hall: Hall,
-    held: Vec<Held>,
+    /// By worker, in the order in which they were given.
+    held: IndexMap<u64, Request>,
     leases: Leases,
 }
 
 impl Model for Routing {
     ghost use Rattle.mj_machine.specs.MachineState.{State};
+    ghost use Rattle.mj_routing.specs.Holding.{held_in};
     ghost use Rattle.mj_routing.specs.RoutingState.{AreKept, seen};
 
     ghost Value = { State };
 
-    ghost view = { λ c. seen c.limits c.moment c.next c.connections.items c.hall c.held.items };
+    ghost view = { λ c. seen c.limits c.moment c.next c.connections c.hall (held_in c.held) };
 
-    ghost invariant = { λ c. AreKept c.limits c.moment c.next c.connections.items c.hall c.held.items c.leases.leases };
+    ghost invariant = { λ c. AreKept c.limits c.moment c.next c.connections c.hall (held_in c.held) c.leases.leases };
 }
 
 impl Routing {
@@ -72,26 +76,22 @@ impl Routing {
             limits: *limits,
             moment: 0,
             next: 1,
-            connections: Vec::new(alloc),
+            connections: Connections::new(alloc),
             hall: Hall::new(alloc, limits),
-            held: Vec::new(alloc),
+            held: IndexMap::new(alloc),
             leases: Leases::new(alloc),
         }
     }
 
-    /// Adds a fresh connection on this lane.
+    /// Adds a fresh connection on this lane, where there is none.
     pub fn add(&mut self, alloc: Global, lane: u32) -> Result<u64, NoMemory>
-        requires { self.old.next < 2 ^ 63 }
+        requires next { self.old.next < 2 ^ 63 }
+        requires free { machine.number_on lane self.old.connections ≡ None }
         ensures state { OnOk result (self.new ≡ opened lane self.old) }
         ensures number { IfOk result (λ number. number ≡ self.old.next) }
     {
         let number = self.next;
-        self.connections.push(Connection {
-            lane,
-            number,
-            role: Role::Fresh,
-            outstanding: Lengths::new(alloc),
-        })?;
+        self.connections.add(alloc, lane, number)?;
         self.next += 1;
         Ok(number)
     }
@@ -108,7 +108,7 @@ impl Routing {
         self.hall.drop_worker(number);
         self.hall.drop_client(number);
         let back = held::release(&mut self.held, number, tickets);
-        connections::cut_off(&mut self.connections, number);
+        self.connections.cut_off(number);
         deadlines::forget(&mut self.leases, number);
         self.queue_again(back)
     }
@@ -122,7 +122,7 @@ impl Routing {
         self.hall.drop_worker(number);
         self.hall.drop_client(number);
         let back = held::release(&mut self.held, number, tickets);
-        connections::set_role(&mut self.connections, number, Role::Gone);
+        self.connections.set_role(number, Role::Gone);
         deadlines::forget(&mut self.leases, number);
         self.queue_again(back)
     }
@@ -136,7 +136,7 @@ impl Routing {
         self.hall.drop_worker(number);
         self.hall.drop_client(number);
         let back = held::release(&mut self.held, number, tickets);
-        connections::set_role(&mut self.connections, number, Role::Fresh);
+        self.connections.set_role(number, Role::Fresh);
         deadlines::forget(&mut self.leases, number);
         self.queue_again(back)
     }
@@ -155,7 +155,7 @@ impl Routing {
     pub fn set_client(&mut self, number: u64)
         ensures { self.new ≡ becomes number Role.Client self.old }
     {
-        connections::set_role(&mut self.connections, number, Role::Client);
+        self.connections.set_role(number, Role::Client);
         deadlines::forget(&mut self.leases, number);
     }
 
@@ -163,7 +163,7 @@ impl Routing {
     pub fn note_delivered(&mut self, number: u64)
         ensures { self.new ≡ reports (Some number) self.old }
     {
-        connections::note_delivered(&mut self.connections, number);
+        self.connections.note_delivered(number);
     }
 
     /// The worker's lease begins anew.
@@ -171,7 +171,7 @@ impl Routing {
         ensures { OnOk result (self.new ≡ marks number self.old) }
     {
         self.leases.reserve(1)?;
-        connections::hear(&mut self.connections, number, self.moment);
+        self.connections.hear(number, self.moment);
         deadlines::renew(
             &mut self.leases,
             &self.limits,
@@ -227,13 +227,13 @@ impl Routing {
         ensures { OnOk result (Does self.new outs.old.items outs.new.items (sends number piece (told_on tickets.now.shelf) self.old)) }
     {
         let octets = piece.len() as u64;
-        match connections::judge(&self.limits, &self.connections, number, octets) {
+        match self.connections.judge(&self.limits, number, octets) {
             Verdict::Nobody => Ok(()),
             Verdict::Slow(lane, waiting) => {
                 self.end(lane, number, Reason::Slow, waiting, tickets, outs)
             }
             Verdict::Sends(lane) => {
-                connections::note_sent(&mut self.connections, number, self.moment, octets)?;
+                self.connections.note_sent(number, self.moment, octets)?;
                 outs.push(Out::Piece(lane, piece))?;
                 Ok(())
             }
@@ -244,7 +244,7 @@ impl Routing {
     pub fn look_up(&self, number: u64) -> Option<Standing>
         ensures { result ≡ standing_of (connection_of number self.now.connections) }
     {
-        connections::look_up(&self.connections, number)
+        self.connections.look_up(number)
     }
 
     /// The number of the connection that opens next.
@@ -258,14 +258,14 @@ impl Routing {
     pub fn has(&self, number: u64) -> bool
         ensures { result ≡ is_some (connection_of number self.now.connections) }
     {
-        connections::has(&self.connections, number)
+        self.connections.has(number)
     }
 
     /// The same, at once where the connection stands at this place, of all from 0, in the order of their opening.
     pub fn has_near(&self, place: usize, number: u64) -> bool
         ensures { result ≡ is_some (connection_of number self.now.connections) }
     {
-        connections::has_near(&self.connections, place, number)
+        self.connections.has_near(place, number)
     }
 
     /// The number of connections.
@@ -273,25 +273,26 @@ impl Routing {
         self.connections.len()
     }
 
-    /// The number of the connection on this lane.
+    /// The number of the connection on this lane, which is alone there.
     pub fn number_on(&self, lane: u32) -> Option<u64>
-        ensures { result ≡ Connections.number_on lane self.now.connections }
+        ensures number { result ≡ machine.number_on lane self.now.connections }
+        ensures alone { IfSome result (λ number. machine.number_on lane (connections_without number self.now.connections) ≡ None) }
     {
-        connections::number_on(&self.connections, lane)
+        self.connections.number_on(lane)
     }
 
     /// How the connection of this number is spoken to.
     pub fn voice_of(&self, number: u64) -> Voice
-        ensures { result ≡ Connections.voice_of (connection_of number self.now.connections) }
+        ensures { result ≡ machine.voice_of (connection_of number self.now.connections) }
     {
-        connections::voice_of(&self.connections, number)
+        self.connections.voice_of(number)
     }
 
     /// Whether the connection of this number is there and has asked.
     pub fn is_asking(&self, number: u64) -> bool
-        ensures { result ≡ Connections.is_asking (connection_of number self.now.connections) }
+        ensures { result ≡ machine.is_asking (connection_of number self.now.connections) }
     {
-        connections::is_asking(&self.connections, number)
+        self.connections.is_asking(number)
     }
 
     /// A copy of the request that this worker holds.
@@ -320,14 +321,14 @@ impl Routing {
     pub fn silent(&self, silent: &mut Vec<u64>) -> Result<(), NoMemory>
         ensures { OnOk result (silent.new.items ≡ silent.old.items ++ silent_numbers self.now) }
     {
-        connections::silent(&self.connections, &self.limits, self.moment, silent)
+        self.connections.silent(&self.limits, self.moment, silent)
     }
 
     /// Whether there is such a worker.
     pub fn has_silent(&self) -> bool
         ensures { result ≡ list_any (λ c. is_unspoken self.now.limits self.now.now c.role) self.now.connections }
     {
-        connections::has_silent(&self.connections, &self.limits, self.moment)
+        self.connections.has_silent(&self.limits, self.moment)
     }
 
     /// It is so many milliseconds since the start, or already more.
@@ -392,23 +393,44 @@ impl Routing {
     pub fn queue_tickets(&mut self, alloc: Global, store: &Store) -> Result<(), NoMemory>
         ensures { OnOk result (self.new ≡ record self.old { queue = self.old.queue ++ waiting_tickets self.old.held store.now.index }) }
     {
+        let held = held::tickets(&self.held, alloc)?;
+        self.queue_others(alloc, store, &held)
+    }
+
+    /// Queues the requests of all pending tickets but those that workers hold, by number.
+    fn queue_others(
+        &mut self,
+        alloc: Global,
+        store: &Store,
+        held: &IndexSet<u64>,
+    ) -> Result<(), NoMemory>
+        requires { AreTicketsOf self.old.held held.now }
+        ensures { OnOk result (self.new ≡ record self.old { queue = self.old.queue ++ waiting_tickets self.old.held store.now.index }) }
+    {
         let end = store.next();
         let mut after = 0;
         while after < end {
             let Some((number, service)) = store.pending(after) else {
                 return Ok(());
             };
-            self.queue_free(alloc, number, service)?;
+            self.queue_free(alloc, number, service, held)?;
             after = number;
         }
         Ok(())
     }
 
     /// Queues the request of this ticket, unless a worker holds it.
-    fn queue_free(&mut self, alloc: Global, number: u64, service: &Name) -> Result<(), NoMemory>
+    fn queue_free(
+        &mut self,
+        alloc: Global,
+        number: u64,
+        service: &Name,
+        held: &IndexSet<u64>,
+    ) -> Result<(), NoMemory>
+        requires { AreTicketsOf self.old.held held.now }
         ensures { OnOk result (self.new ≡ record self.old { queue = put_last (free_request self.old.held number service.now) self.old.queue }) }
     {
-        if held::holds_ticket(&self.held, number) {
+        if held.contains(&number) {
             return Ok(());
         }
         self.queue_ticket(alloc, number, service)
@@ -428,7 +450,7 @@ impl Routing {
             mark: self.moment,
             spoken: self.moment,
         });
-        connections::set_role(&mut self.connections, number, role);
+        self.connections.set_role(number, role);
         deadlines::renew(
             &mut self.leases,
             &self.limits,
@@ -448,15 +470,11 @@ impl Routing {
         let Some((worker, request)) = self.hall.take_pair() else {
             return Ok(None);
         };
-        let voice = connections::voice_of(&self.connections, worker);
+        let voice = self.connections.voice_of(worker);
         let parted = part(alloc, request);
         let origin = parted.request.origin;
-        let held = Held {
-            worker,
-            request: parted.request,
-        };
-        self.held.push(held).unwrap();
-        connections::hear(&mut self.connections, worker, self.moment);
+        held::give(&mut self.held, worker, parted.request);
+        self.connections.hear(worker, self.moment);
         deadlines::renew(
             &mut self.leases,
             &self.limits,

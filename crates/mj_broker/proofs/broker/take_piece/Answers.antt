@@ -13,7 +13,7 @@ use Rattle.mj_broker.proofs.broker.take_piece.Goals as goal
 pub returns-in_default-clause-happened : goal.returns-in_default-clause-happened
 returns-in_default-clause-happened g c =
     on_ok_weaker c.settle.result
-    (λ a. nobody-happened g.D.Disk c.args.parts.now c.args.disk.now c.args.lane c.args.piece.now c.args.wires.now.items (sym c.number_on.ensures ∙ c.in_default.is) c.settle.new.parts c.settle.new.disk c.args.outs.now.items c.settle.new.outs.items a.did)
+    (λ a. nobody-happened g.D.Disk c.args.parts.now c.args.disk.now c.args.lane c.args.piece.now c.args.wires.now.items (sym c.number_on.ensures.number ∙ c.in_default.is) c.settle.new.parts c.settle.new.disk c.args.outs.now.items c.settle.new.outs.items a.did)
     c.settle.ensures.acted
 
 pub returns-in_default-clause-halted : goal.returns-in_default-clause-halted
@@ -39,7 +39,7 @@ returns-in_default-clause-next g c = on_ok_weaker c.settle.result (λ a. let is 
 
 pub feed-requires-clause-there : goal.feed-requires-clause-there
 feed-requires-clause-there g c =
-    wire-there c.args.lane c.in-Some.number c.args.parts.now.routing.connections c.args.wires.now.items c.requires.ready (sym c.number_on.ensures ∙ c.in-Some.is)
+    wire-there c.args.lane c.in-Some.number c.args.parts.now.routing.connections c.args.wires.now.items c.requires.ready (sym c.number_on.ensures.number ∙ c.in-Some.is)
 
 pub feed-requires-clause-fresh : goal.feed-requires-clause-fresh
 feed-requires-clause-fresh g c = c.requires.ready.fresh
@@ -52,7 +52,7 @@ gain-requires-clause-short g c = λ stored.
 pub returns-in-Ok-clause-happened : goal.returns-in-Ok-clause-happened
 returns-in-Ok-clause-happened g c =
     on_ok_weaker c.gain.result
-    (λ a. fed-happened g.D.Disk c.args.parts.now c.args.disk.now c.args.lane c.in-Some.number c.args.piece.now c.as_slice-in-Ok.result.now c.args.wires.now.items (sym c.number_on.ensures ∙ c.in-Some.is)
+    (λ a. fed-happened g.D.Disk c.args.parts.now c.args.disk.now c.args.lane c.in-Some.number c.args.piece.now c.as_slice-in-Ok.result.now c.args.wires.now.items (sym c.number_on.ensures.number ∙ c.in-Some.is)
     (λ limits streams stands. c.as_slice-in-Ok.ensures.value ∙ rw c.as_slice.ensures at (c.in-Ok.ensures.items limits streams stands))
     c.gain.new.parts c.gain.new.disk c.feed.new.links.items c.args.outs.now.items c.gain.new.outs.items (λ limits streams stands. rw c.as_slice.ensures at (c.in-Ok.ensures.stand limits streams stands)) a.did)
     c.gain.ensures.acted
@@ -60,7 +60,7 @@ returns-in-Ok-clause-happened g c =
 pub returns-in-Ok-clause-halted : goal.returns-in-Ok-clause-halted
 returns-in-Ok-clause-halted g c =
     IfErr-weaker c.gain.result _ _
-    (λ fault s. fed-halted g.D.Disk c.args.parts.now c.args.disk.now c.args.lane c.in-Some.number c.args.piece.now c.as_slice-in-Ok.result.now c.args.wires.now.items (sym c.number_on.ensures ∙ c.in-Some.is)
+    (λ fault s. fed-halted g.D.Disk c.args.parts.now c.args.disk.now c.args.lane c.in-Some.number c.args.piece.now c.as_slice-in-Ok.result.now c.args.wires.now.items (sym c.number_on.ensures.number ∙ c.in-Some.is)
     (λ limits streams stands. c.as_slice-in-Ok.ensures.value ∙ rw c.as_slice.ensures at (c.in-Ok.ensures.items limits streams stands)) fault c.gain.new.disk s)
     c.gain.ensures.stopped
 

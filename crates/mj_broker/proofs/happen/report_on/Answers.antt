@@ -10,10 +10,10 @@ pub returns-in_default-clause-acted : goal.returns-in_default-clause-acted
 returns-in_default-clause-acted g c = λ outs.
     lifted-still g.D.Disk c.args.parts.now c.args.disk.now c.requires.sound c.args.parts.now.routing outs (λ told s. reports (number_on c.args.lane s.connections) s)
     (stays-reports (told_on c.args.parts.now.keeping.keeper.shelf) (number_on c.args.lane c.args.parts.now.routing.connections) c.args.parts.now.routing)
-    (sym (ap (λ (o : Option ℕ). reports o c.args.parts.now.routing) (sym c.number_on.ensures ∙ c.in_default.is)))
+    (sym (ap (λ (o : Option ℕ). reports o c.args.parts.now.routing) (sym c.number_on.ensures.number ∙ c.in_default.is)))
 
 pub returns-clause-acted : goal.returns-clause-acted
 returns-clause-acted g c = λ outs.
     lifted-still g.D.Disk c.args.parts.now c.args.disk.now c.requires.sound c.note_delivered.new.self outs (λ told s. reports (number_on c.args.lane s.connections) s)
     (stays-reports (told_on c.args.parts.now.keeping.keeper.shelf) (number_on c.args.lane c.args.parts.now.routing.connections) c.args.parts.now.routing)
-    (c.note_delivered.ensures ∙ sym (ap (λ (o : Option ℕ). reports o c.args.parts.now.routing) (sym c.number_on.ensures ∙ c.in-Some.is)))
+    (c.note_delivered.ensures ∙ sym (ap (λ (o : Option ℕ). reports o c.args.parts.now.routing) (sym c.number_on.ensures.number ∙ c.in-Some.is)))

@@ -1,6 +1,5 @@
-use Rattle.std.proofs.Common.{rules}
-use Rattle.std.proofs.lemmas.Fn.{filter_same}
+use Rattle.mj_routing.proofs.HoldingLemmas.{taken-out}
 use Rattle.mj_routing.proofs.held.drop_held.Goals as goal
 
 pub returns : goal.returns
-returns c = filter_same _ _ _ (λ x b f' k. search rules) _ _ c.retain.ensures.filtered
+returns c = taken-out c.args.held.now c.shift_remove.new.self c.args.worker c.shift_remove.ensures.entries c.shift_remove.ensures.updates.1

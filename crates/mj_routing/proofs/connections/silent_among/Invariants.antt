@@ -1,6 +1,6 @@
 use Rattle.std.proofs.Common.{◌≡◌, ◌++◌, drop}
 use Rattle.mj_routing.specs.Places.{silent_in}
-use Rattle.mj_routing.proofs.connections.silent.Given as goal
+use Rattle.mj_routing.proofs.connections.silent_among.Given as goal
 
 abbrev pub invariant-loop-connection : goal.invariant-loop-connection
 invariant-loop-connection l =

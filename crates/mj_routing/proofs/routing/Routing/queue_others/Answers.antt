@@ -1,11 +1,14 @@
 use Rattle.std.proofs.Common.{ap, sym, ◌∙◌, arith}
+use Rattle.mj_machine.specs.MachineState.{State}
+use Rattle.mj_machine.specs.StoreState.{holds_ticket}
 use Rattle.mj_routing.proofs.WaitingLemmas.{all-queued, none-pending, none-queued, one-queued, rest_above}
-use Rattle.mj_routing.proofs.routing.Routing.queue_tickets.Goals as goal
+use Rattle.mj_routing.proofs.routing.Routing.queue_others.Goals as goal
 
 pub loop-after-init : goal.loop-after-init
 loop-after-init c = record {
   numbered = c.next-end.ensures.numbered;
   end = c.next-end.ensures.value;
+  held = c.requires;
   rest = none-queued c.args.store.now.index c.next-end.ensures.numbered c.args.self.now;
 }
 
@@ -24,6 +27,7 @@ loop-after-preserved c =
     record {
       numbered = c.loop-after.invariant.numbered;
       end = c.loop-after.invariant.end;
+      held = λ number. c.loop-after.invariant.held number ∙ ap (λ (s : State). holds_ticket s.held number) (sym c.in_ok-queue_free.ensures);
       rest = ap (rest_above c.in-Some.number c.args.store.now.index) c.in_ok-queue_free.ensures ∙ sym next.same ∙ c.loop-after.invariant.rest;
     }
 

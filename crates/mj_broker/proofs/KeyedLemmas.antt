@@ -2,7 +2,7 @@
 use Rattle.std.proofs.Common.{◌≡◌, ◌+◌, ◌<◌, ◌≤◌, ◌==◌, ℕ, zero, suc, Bool, true, false, not, nat_lt, cond, List, [], ◌∷◌, length, None, Some, refl, sym, ap, subst, arith}
 use Rattle.std.specs.List.{position, position_or_len}
 use Rattle.std.proofs.lemmas.Bool.Decides.{nat_tests}
-use Rattle.mj_routing.specs.Keyed.{IsFirstOf, IsOfNone, IsPlaceIn}
+use Rattle.mj_broker.specs.Keyed.{IsFirstOf, IsOfNone, IsPlaceIn}
 
 module _ {X : Type 0} (key : X → ℕ) where
   abbrev test : ℕ → X → Bool

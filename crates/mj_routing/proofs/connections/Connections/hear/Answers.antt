@@ -1,0 +1,16 @@
+use Rattle.std.proofs.Common.{refl, ap, slice_set}
+use Rattle.mj_machine.specs.declared.connection.Role.{Role}
+use Rattle.mj_machine.specs.Connections.{with_role}
+use Rattle.mj_machine.specs.Pairing.{mark_set}
+use Rattle.mj_routing.proofs.LaneLemmas.{indexed-set, set-changed}
+use Rattle.mj_routing.proofs.connections.Connections.hear.Goals as goal
+
+pub invariant_of-self : goal.invariant_of-self
+invariant_of-self c =
+    indexed-set c.self.inside.list.items c.self.inside.lanes c.self.invariant c.args.self.now c.args.number c.in-Some.at (mark_set c.args.now) c.index_mut.result.now _ c.self.view_is c.in-Some.ensures c.index_mut.ensures.value (λ d. refl) (λ d. refl)
+    (ap (λ (role : Role). slice_set c.self.inside.list.items c.in-Some.at (with_role role c.index_mut.result.now)) c.set_mark.ensures)
+
+pub returns-in-Some : goal.returns-in-Some
+returns-in-Some c =
+    set-changed c.self.inside.list.items c.args.self.now c.args.number c.in-Some.at (mark_set c.args.now) c.index_mut.result.now _ c.self.view_is c.in-Some.ensures c.index_mut.ensures.value
+    (ap (λ (role : Role). slice_set c.self.inside.list.items c.in-Some.at (with_role role c.index_mut.result.now)) c.set_mark.ensures)
