@@ -7,3 +7,4 @@ pub mod LongestLemmas
 pub mod FaultLemmas
 pub mod PieceLemmas
 pub mod SmallLemmas
+pub mod KeptLemmas

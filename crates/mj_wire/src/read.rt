@@ -1,4 +1,5 @@
-ghost use Rattle.std.specs.Prelude.{◌≡◌, ◌≤◌, ◌++◌, ◌∷◌, [], length, drop, IfOk, OnOk, OnErr};
+ghost use Rattle.std.specs.Prelude.{◌≡◌, ◌+◌, ◌*◌, ◌≤◌, ◌++◌, ◌∷◌, [], length, drop, IfOk, OnOk, OnErr};
+ghost use Rattle.mj_wire.specs.KeptByWire.{weight_of_items, reserved, IsLight, Weighs};
 ghost use Rattle.mj_wire.specs.NextReading;
 ghost use Rattle.mj_wire.specs.StreamItems.{items_from, step_of, place_after, items_of, passed, IsWithin};
 ghost use Rattle.mj_wire.specs.WireState.{AppendsFront, IsReadOut};
@@ -25,6 +26,9 @@ pub fn take_piece(
         place.new rest.new.items items.new.items) }
     ensures part { OnErr result (AppendsFront items.old.items
         (items_from limits.now place.old (rest.old.items ++ piece.now)) items.new.items) }
+    ensures light { OnOk result (IsLight limits.now place.old rest.old.items → IsLight limits.now place.new rest.new.items) }
+    ensures kept { OnOk result (weight_of_items items.new.items + reserved place.new rest.new.items
+        ≤ weight_of_items items.old.items + reserved place.old rest.old.items + 17 * length piece.now) }
 {
     if has_ended(place.stage) {
         return Ok(());
@@ -61,6 +65,8 @@ fn read_all(
         place.new (drop used octets.now) items.new.items) }
     ensures part { OnErr result (AppendsFront items.old.items (items_from limits.now place.old octets.now)
         items.new.items) }
+    ensures waits { IfOk result (λ used. NextReading.next_of limits.now place.new (drop used octets.now) ≡ Next.Wait) }
+    ensures weighs { IfOk result (λ used. Weighs limits.now place.old items.old.items place.new items.new.items used) }
 {
     let mut used = 0;
     loop {

@@ -1,4 +1,4 @@
-ghost use Rattle.std.specs.Prelude.{◌≡◌, ◌++◌, ◌+◌, [], false, true, length, IfOk, OnOk, OnErr, List, ℕ};
+ghost use Rattle.std.specs.Prelude.{◌≡◌, ◌≤◌, ◌++◌, ◌+◌, ◌*◌, [], false, true, length, IfOk, OnOk, OnErr, List, ℕ};
 ghost use Rattle.mj_base.specs.declared.limits.Limits.{Limits as Lim};
 
 use super::WireItem;
@@ -32,9 +32,15 @@ impl Model for Wire {
       taken = w.taken;
       spent = w.spent;
     } };
+
+    ghost use Rattle.mj_wire.specs.KeptByWire.{IsLight};
+
+    ghost invariant = { λ w. IsLight w.limits w.place w.rest.items };
 }
 
 impl Wire {
+    ghost use Rattle.mj_wire.specs.KeptByWire.{kept_by, most_kept, reserved_by, weight_of_items};
+    ghost use Rattle.mj_wire.specs.NextReading.{has_ended};
     ghost use Rattle.mj_wire.specs.SmallItems.{AddsSmall};
     ghost use Rattle.mj_wire.specs.StreamItems.{count, gained};
     ghost use Rattle.mj_wire.specs.WireState.{StandsFor, AppendsFront};
@@ -44,6 +50,7 @@ impl Wire {
         ensures stands { IfOk result (λ w. StandsFor limits.now w []) }
         ensures ready { IfOk result (λ w. w.spent ≡ false) }
         ensures limits { IfOk result (λ w. w.limits ≡ limits.now) }
+        ensures kept { IfOk result (λ w. reserved_by w ≡ 0) }
     {
         Ok(Wire {
             limits: *limits,
@@ -59,7 +66,7 @@ impl Wire {
     }
 
     /// Takes the next piece of the stream, and appends the items that it completes. Without memory the wire is
-    /// spent, and of the items that were due the first ones may have been appended.
+    /// spent and keeps nothing, and of the items that were due the first ones may have been appended.
     pub fn feed(
         &mut self,
         alloc: Global,
@@ -80,19 +87,36 @@ impl Wire {
         // Each message that was appended is within the limits, whatever the wire was fed.
         ensures small { OnOk result (AddsSmall self.old.limits items.old.items items.new.items) }
         ensures limits { self.new.limits ≡ self.old.limits }
+
+        // What is kept is within the limits, and nothing is kept after a fault or without memory.
+        ensures bounded { kept_by self.new ≤ most_kept self.new.limits }
+        ensures ended { has_ended self.new.place.stage ≡ true → kept_by self.new ≡ 0 }
+        ensures released { OnErr result (kept_by self.new ≡ 0) }
+
+        // What is kept and what was appended count no more than what was kept and the piece, 17 for each byte.
+        ensures kept { OnOk result (weight_of_items items.new.items + reserved_by self.new
+            ≤ weight_of_items items.old.items + reserved_by self.old + 17 * length piece.now) }
     {
         self.spent = true;
-        take_piece(
+        match take_piece(
             alloc,
             &self.limits,
             &mut self.place,
             &mut self.rest,
             piece,
             items,
-        )?;
-        self.taken = self.taken.saturating_add(piece.len() as u64);
-        self.spent = false;
-        Ok(())
+        ) {
+            Ok(()) => {
+                self.taken = self.taken.saturating_add(piece.len() as u64);
+                self.spent = false;
+                Ok(())
+            }
+            Err(fault) => {
+                self.place.group = Frames::new(alloc);
+                self.rest = BytesMut::new(alloc);
+                Err(fault)
+            }
+        }
     }
 
     /// Whether memory ran out in an earlier piece; then the wire can't be fed.
