@@ -2,11 +2,13 @@
 //! they are for, and exits with its status.
 #![tactic(auto)]
 
+mod bridging;
 mod compacting;
 mod copying;
 mod peering;
 mod serving;
 
+use bridging::{is_bridge, run_bridge};
 use compacting::{is_compact, run_compact};
 use copying::{is_copying, run_copying};
 use mj_base::{NoMemory, Octets, StdSink, StdSource};
@@ -37,6 +39,10 @@ fn main(rt: HostRuntime) -> ExitCode {
         let mut source = StdSource::new(rt.reader());
         let mut sink = StdSink::new(io::writer(&rt));
         return ExitCode::from(run_peer(rt, alloc, &words, &mut source, &mut sink));
+    }
+    if is_bridge(&words) {
+        let mut sink = StdSink::new(io::writer(&rt));
+        return ExitCode::from(run_bridge(rt, alloc, &words, &mut sink));
     }
     if is_compact(&words) {
         let mut sink = StdSink::new(io::writer(&rt));

@@ -24,7 +24,7 @@ use Rattle.mj_wire.specs.declared.item.WireItem.TheVariants as item
 
 -- ---- a turn of the client: behind it no request is open, or the same as before and none was answered
 
-abbrev IsNoDone : Act → Type 0
+abbrev pub IsNoDone : Act → Type 0
 IsNoDone (act.Write text) = ⊤
 IsNoDone act.Reopen = ⊤
 IsNoDone (act.Part body) = ⊤
@@ -33,7 +33,7 @@ IsNoDone act.Served = ⊤
 IsNoDone act.Finished = ⊤
 IsNoDone act.NoAnswer = ⊤
 
-abbrev NoDone : List Act → Type 0
+abbrev pub NoDone : List Act → Type 0
 NoDone [] = ⊤
 NoDone (a ∷ rest) = IsNoDone a × NoDone rest
 
@@ -41,7 +41,7 @@ no-done-append : (xs ys : List Act) → NoDone xs → NoDone ys → NoDone (xs +
 no-done-append [] ys a b = b
 no-done-append (x ∷ xs) ys a b = (a.0, no-done-append xs ys a.1 b)
 
-abbrev Fine : Option (List (List ℕ)) → Client.Turn → Type 0
+abbrev pub Fine : Option (List (List ℕ)) → Client.Turn → Type 0
 Fine request t = (t.0.talk.request ≡ None) ⊎ (NoDone t.1 × (t.0.talk.request ≡ request))
 
 fine-then : (request : Option (List (List ℕ))) (t u : Client.Turn) → Fine request t → Fine t.0.talk.request u → Fine request (u.0, t.1 ++ u.1)
@@ -119,7 +119,7 @@ happens-fine (event.Given piece) c = sweep-fine (beyond c.stream piece) (record 
 happens-fine event.Idle c = quiets-fine false c
 happens-fine event.End c = quiets-fine true c
 
-steps-fine : (e : LinkEvent) (c : Client.Client) → Fine c.talk.request (Client.steps e c)
+pub steps-fine : (e : LinkEvent) (c : Client.Client) → Fine c.talk.request (Client.steps e c)
 steps-fine e c = fine-either c.talk.request c.talk.over (c, []) (Client.happens e c) (inr (tt, refl)) (happens-fine e c)
 
 -- ---- what the near side leaves as it was
@@ -150,7 +150,7 @@ near_turn-same t b = let s = move_all-same t.1 (record b { near = t.0 }) in reco
 free-same : (a b : Bridge) → Same a b → IsFree b → IsFree a
 free-same a b s f = λ none. ap (λ (c : Client.Client). c.talk.request) s.far ∙ f (sym s.held ∙ none)
 
-near_turn-free : (t : Worker.Turn) (b : Bridge) → IsFree b → IsFree (near_turn t b).0
+pub near_turn-free : (t : Worker.Turn) (b : Bridge) → IsFree b → IsFree (near_turn t b).0
 near_turn-free t b f = free-same (near_turn t b).0 b (near_turn-same t b) f
 
 -- ---- turns put together
@@ -166,19 +166,19 @@ either-free false x y f g = g
 held-free : (asked : Asked) (held : Option Asked) (request : Option (List (List ℕ))) → held ≡ Some asked → held ≡ None → request ≡ None
 held-free asked held request e none = absurd (false≢true (sym (ap is_some (sym e ∙ none))))
 
-opens-free : (asked : Asked) (b : Bridge) → IsFree (opens asked b).0
+pub opens-free : (asked : Asked) (b : Bridge) → IsFree (opens asked b).0
 opens-free asked b = λ none. held-free asked (Some asked) (opens asked b).0.far.talk.request refl none
 
 keeps-free : (same : Bool) (asked : Asked) (b : Bridge) → IsFree b → IsFree (keeps same asked b).0
 keeps-free true asked b f = f
 keeps-free false asked b f = f
 
-takes-free : (held next : Option Asked) (asked : Asked) (b : Bridge) → IsFree b → IsFree (takes held next asked b).0
+pub takes-free : (held next : Option Asked) (asked : Asked) (b : Bridge) → IsFree b → IsFree (takes held next asked b).0
 takes-free None next asked b f = opens-free asked b
 takes-free (Some held) None asked b f = keeps-free (held.link == b.link) asked b f
 takes-free (Some held) (Some next) asked b f = f
 
-meets_as-free : (handed : Option Handed) (x : WireItem) (b : Bridge) → IsFree b → IsFree (meets_as handed x b).0
+pub meets_as-free : (handed : Option Handed) (x : WireItem) (b : Bridge) → IsFree b → IsFree (meets_as handed x b).0
 meets_as-free None x b f = near_turn-free (Worker.meets x b.near) b f
 meets_as-free (Some handed) x b f = takes-free b.held b.next (asking handed b) (hearing b) f
 
@@ -244,12 +244,12 @@ opens_next-free (Some held) next b f = f
 goes_on-free : (b : Bridge) → IsFree b → IsFree (goes_on b).0
 goes_on-free b f = either-free (is_over b) (stays b) (opens_next b.held b.next b) f (opens_next-free b.held b.next b f)
 
-far_acts-free : (t : Client.Turn) (b : Bridge) → IsFree b → Fine b.far.talk.request t → IsFree (far_acts t.1 (record b { far = t.0 })).0
+pub far_acts-free : (t : Client.Turn) (b : Bridge) → IsFree b → Fine b.far.talk.request t → IsFree (far_acts t.1 (record b { far = t.0 })).0
 far_acts-free t b f (inl e) = λ none. ap (λ (c : Client.Client). c.talk.request) (far_acts-far t.1 (record b { far = t.0 })) ∙ e
 far_acts-free t b f (inr g) =
     λ none. ap (λ (c : Client.Client). c.talk.request) (far_acts-far t.1 (record b { far = t.0 })) ∙ g.1 ∙ f (sym (far_acts-held t.1 (record b { far = t.0 }) g.0) ∙ none)
 
-far_turn-free : (t : Client.Turn) (b : Bridge) → IsFree b → Fine b.far.talk.request t → IsFree (far_turn t b).0
+pub far_turn-free : (t : Client.Turn) (b : Bridge) → IsFree b → Fine b.far.talk.request t → IsFree (far_turn t b).0
 far_turn-free t b f g = goes_on-free (far_acts t.1 (record b { far = t.0 })).0 (far_acts-free t b f g)
 
 -- ---- calls

@@ -1,4 +1,5 @@
 mod WorkerTurns
 mod SightLemmas
 mod FreeLemmas
+mod DeckLemmas
 mod Rows

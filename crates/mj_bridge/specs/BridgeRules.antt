@@ -146,8 +146,12 @@ abbrev pub meets_all : List WireItem → Bridge → Turn
 meets_all [] b = stays b
 meets_all (x ∷ xs) b = unless (meets_all xs) (ends x b) (meets x b)
 
+-- a piece came
+abbrev pub gives : List ℕ → Bridge → Turn
+gives piece b = meets_all (beyond b.near.stream piece) (record b { near = Worker.takes piece b.near })
+
 abbrev pub near_happens : LinkEvent → Bridge → Turn
-near_happens (event.Given piece) b = meets_all (beyond b.near.stream piece) (record b { near = Worker.takes piece b.near })
+near_happens (event.Given piece) b = gives piece b
 near_happens event.Idle b = near_turn (Worker.rests b.near) b
 near_happens event.End b = near_turn (Worker.quiets true b.near) b
 

@@ -1,3 +1,4 @@
 pub mod BridgeRules
 pub mod BridgeRows
 pub mod BridgeSights
+pub mod BridgeStands

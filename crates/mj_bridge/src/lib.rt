@@ -3,9 +3,12 @@
 #![tactic(auto)]
 
 mod act;
+mod bridge;
+mod deck;
 mod laws;
 
 pub use act::{BridgeAct, BridgeActs};
+pub use bridge::Bridge;
 pub use laws::{
     a_bridge_answers_each_request_on_its_link, a_bridge_asks_far_where_nothing_is_open, worked_runs,
 };

@@ -122,6 +122,10 @@ serves address body w =
     let v : Worker = record w { duty = served w.duty } in
     ((finishing v).0, answers w.duty address body ++ (finishing v).1)
 
+-- it leaves, whatever was to come
+abbrev pub leaving : Worker → Worker
+leaving w = record w { duty = record w.duty { over = true } }
+
 abbrev pub hearing : Worker → Worker
 hearing w = record w { duty = heard w.duty }
 

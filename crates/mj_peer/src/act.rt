@@ -75,6 +75,13 @@ impl Acts {
         self.acts.as_slice()
     }
 
+    /// All of them, handed out.
+    pub fn into_vec(self) -> Vec<Act>
+        ensures { result.items ≡ self }
+    {
+        self.acts
+    }
+
     /// Appends an act. Without memory nothing is appended.
     pub fn push(&mut self, act: Act) -> Result<(), NoMemory>
         ensures ok { OnOk result (self.new ≡ self.old ++ act ∷ []) }

@@ -1,9 +1,10 @@
 //! A worker's end but for its being spent, item by item.
 ghost use Rattle.std.specs.Prelude.{◌≡◌, ◌≤◌, ◌++◌, [], false, replicate, OnOk, IfOk};
+ghost use Rattle.mj_peer.specs.PeerTexts;
 ghost use Rattle.mj_peer.specs.PeerTexts.{MaySay};
 ghost use Rattle.mj_peer.specs.Sweeping.{beyond, sweep};
 ghost use Rattle.mj_peer.specs.WorkerEndRules;
-ghost use Rattle.mj_peer.specs.WorkerEndRules.{Worker, finishing, fresh, greets, happens, hearing, hears, idling, meets, obeys, partials, quiets, registers, reopens, rests, serves, takes};
+ghost use Rattle.mj_peer.specs.WorkerEndRules.{Worker, finishing, fresh, greets, happens, hearing, hears, idling, leaving, meets, obeys, partials, quiets, registers, reopens, rests, serves, takes};
 ghost use Rattle.mj_peer.specs.WorkerStands.{Follows, FollowsTo, Stands};
 ghost use Rattle.mj_peer.specs.declared.act.Act.TheVariants as AnAct;
 ghost use Rattle.mj_worker_cmd.specs.declared.command.WorkerAct.TheVariants as AWorkerAct;
@@ -189,6 +190,16 @@ impl Post {
         acts.push(Act::Served)?;
         self.duty.count_served();
         self.finish(alloc, acts)
+    }
+
+    /// Leaves, whatever was to come; answers the DISCONNECT that says so.
+    pub fn leave(&mut self, alloc: Global) -> Result<Octets, NoMemory>
+        ensures text { IfOk result (λ text. text ≡ PeerTexts.said_text self.old.duty.version AWorkerAct.Disconnect) }
+        ensures stands { (w : Worker) → Stands self.old w → Stands self.new (leaving w) }
+        ensures live { self.new.wire ≡ self.old.wire }
+    {
+        self.duty.over = true;
+        said_text(alloc, self.duty.version, WorkerAct::Disconnect)
     }
 
     /// The link gave nothing; answers whether what came on the link is at its end.

@@ -14,5 +14,6 @@ mod worker;
 pub use client::run_client;
 pub use feed::Feed;
 pub use leaving::Leaving;
+pub use reading::read_event;
 pub use stop::Stop;
 pub use worker::run_worker;

@@ -11,7 +11,7 @@ use std::alloc::Global;
 const PIECE_BYTES: usize = 65_536;
 
 /// Reads what the link gives next. The room is there before the link is read, so that want of memory loses nothing.
-pub(crate) fn read_event<L: Link>(alloc: Global, link: &mut L) -> Result<LinkEvent, Stop>
+pub fn read_event<L: Link>(alloc: Global, link: &mut L) -> Result<LinkEvent, Stop>
     ensures told { IfOk result (λ event. Tells (L.told link.old) (L.told link.new) (entry_of event ∷ [])) }
     ensures failed { OnErr result (L.told link.new ≡ L.told link.old) }
     ensures cause { IfErr result (λ stop. ReadCause stop (L.read_faults link.old) (L.read_faults link.new)) }

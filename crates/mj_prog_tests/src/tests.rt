@@ -129,7 +129,7 @@ fn lane_1_of_two_opens(rt: HostRuntime) -> Result<(), Fail> {
 }
 
 const TOOLS: &str = "\
-help: stop|: 0 commands help replay tickets show gen broker client worker compact audit ship follow
+help: stop|: 0 commands help replay tickets show gen broker client worker compact bridge audit ship follow
 - show: : 0 done 0
 ";
 

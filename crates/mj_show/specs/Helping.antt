@@ -7,7 +7,7 @@ use Rattle.mj_base.specs.Writing.{AppendsFront}
 
 -- the commands, in the order in which the documents name them
 abbrev pub commands : List (List ℕ)
-commands = codes "help" ∷ codes "replay" ∷ codes "tickets" ∷ codes "show" ∷ codes "gen" ∷ codes "broker" ∷ codes "client" ∷ codes "worker" ∷ codes "compact" ∷ codes "audit" ∷ codes "ship" ∷ codes "follow" ∷ []
+commands = codes "help" ∷ codes "replay" ∷ codes "tickets" ∷ codes "show" ∷ codes "gen" ∷ codes "broker" ∷ codes "client" ∷ codes "worker" ∷ codes "compact" ∷ codes "bridge" ∷ codes "audit" ∷ codes "ship" ∷ codes "follow" ∷ []
 
 -- `commands`, and each name behind a space
 abbrev pub help_line : List ℕ

@@ -5,7 +5,7 @@ use mj_base::{Sink, WriteAnswer};
 
 /// The line that names the commands.
 const COMMANDS: &[u8] =
-    b"commands help replay tickets show gen broker client worker compact audit ship follow\n";
+    b"commands help replay tickets show gen broker client worker compact bridge audit ship follow\n";
 
 /// Prints the names of the commands; answers the status that the program exits with.
 pub fn help<K: Sink>(out: &mut K) -> u8

@@ -90,7 +90,7 @@ fn the_commands_are_named(rt: HostRuntime) -> Result<(), Fail> {
     assert!(rt; help(&mut out) == 0);
     assert!(rt;
         out.written()
-            == b"commands help replay tickets show gen broker client worker compact audit ship follow\n".as_slice()
+            == b"commands help replay tickets show gen broker client worker compact bridge audit ship follow\n".as_slice()
     );
     Ok(())
 }

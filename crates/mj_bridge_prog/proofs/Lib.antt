@@ -1,0 +1,4 @@
+mod SideLemmas
+mod RunLemmas
+mod WordLemmas
+mod FinishLemmas

@@ -1,0 +1,4 @@
+pub mod Sides
+pub mod BridgeRun
+pub mod BridgeWords
+pub mod BridgeTable
