@@ -1,0 +1,4 @@
+pub mod NoteLemmas
+pub mod ReadLemmas
+pub mod OpenLemmas
+pub mod AppendLemmas
